@@ -1,0 +1,6 @@
+pub mod Digits
+pub mod Worlds
+pub mod Files
+pub mod Printing
+pub mod Lines
+pub mod NextLine

@@ -1,0 +1,10 @@
+pub mod Number
+pub mod World
+pub mod Causes
+pub mod Desk
+pub mod Whole
+pub mod MemoryState
+pub mod Memory
+pub mod LineState
+pub mod Line
+pub mod LineRoom

@@ -1,0 +1,6 @@
+pub mod SumLemmas
+pub mod OrderLemmas
+pub mod MatrixLemmas
+pub mod BoundLemmas
+pub mod FixingsLemmas
+pub mod InsertLemmas

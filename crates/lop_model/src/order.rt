@@ -1,0 +1,98 @@
+ghost use Rattle.std.specs.Prelude.{◌≡◌, ℕ, ◌<◌, length, slice_index, IfOk, IfErr};
+ghost use Rattle.lop_model.specs.Order.{IsOrder};
+ghost use Rattle.std.specs.List.{range_with_len};
+
+use std::alloc::{AllocError, Global};
+use std::marker::Model;
+use thiserror::Error;
+
+/// Why a list is no order of n. The places count from 0.
+#[derive(Clone, Copy, Debug, PartialEq, Eq, Error)]
+pub enum OrderFault {
+    /// It doesn't have n numbers.
+    #[error("Length")]
+    Length,
+    /// The number at this place isn't below n; those before are n's objects, each once.
+    #[error("OutOfRange")]
+    OutOfRange(usize),
+    /// The object at this place stood before; those before are n's objects, each once.
+    #[error("Repeated")]
+    Repeated(usize),
+}
+
+/// An order of the objects 0 to n - 1.
+#[derive(Drop)]
+pub struct Order {
+    objects: Vec<u16>,
+}
+
+impl Model for Order {
+    ghost use Rattle.std.specs.Prelude.{ℕ, ◌<◌, List, length};
+    ghost use Rattle.lop_model.specs.Order.{IsOrder};
+
+    ghost Value = { List ℕ };
+
+    ghost view = { λ o. o.objects.items };
+
+    ghost invariant = { λ o. (length o.objects.items < 65536) × IsOrder (length o.objects.items) o.objects.items };
+}
+
+impl Order {
+    ghost use Rattle.lop_model.specs.OrderFault.{IsFault};
+
+    pub fn of_list(list: Vec<u16>, n: u16) -> Result<Self, OrderFault>
+        ensures ok { IfOk result (λ s. IsOrder n list.items × (s ≡ list.items)) }
+        ensures fault { IfErr result (IsFault n list.items) }
+    {
+        if list.len() != n as usize {
+            return Err(OrderFault::Length);
+        }
+        for p in 0..list.len() {
+            let object = list[p];
+            if object >= n {
+                return Err(OrderFault::OutOfRange(p));
+            }
+            for q in 0..p {
+                if list[q] == object {
+                    return Err(OrderFault::Repeated(p));
+                }
+            }
+        }
+        Ok(Order { objects: list })
+    }
+
+    /// The order 0 to n - 1.
+    pub fn first(alloc: Global, n: u16) -> Result<Self, AllocError>
+        ensures { IfOk result (λ s. s ≡ range_with_len 0 n) }
+    {
+        let mut objects = Vec::with_capacity(alloc, n as usize)?;
+        for a in 0..n {
+            objects.push(a)?;
+        }
+        Ok(Order { objects })
+    }
+
+    pub fn n(&self) -> u16
+        ensures size { result ≡ length self.now }
+        ensures order { IsOrder result self.now }
+    {
+        self.objects.len() as u16
+    }
+
+    pub fn at(&self, place: u16) -> u16
+        requires { place < length self.now }
+        ensures value { result ≡ slice_index self.now place }
+        ensures below { result < length self.now }
+    {
+        self.objects[place as usize]
+    }
+
+    pub fn copy_from(&mut self, other: &Order)
+        requires { length self.old ≡ length other.now }
+        ensures { self.new ≡ other.now }
+    {
+        for p in 0..self.objects.len() {
+            self.objects[p] = other.objects[p];
+        }
+    }
+}

@@ -1,0 +1,131 @@
+ghost use Rattle.std.specs.Prelude.{◌≡◌, ℕ, ◌*◌, ◌<◌, ◌≤◌, ◌^◌, pos, ◌≤ℤ◌, length, IfOk, IfErr};
+ghost use Rattle.lop_model.specs.Matrix.{entry, pair_absolute, absolute_total, matrix_of};
+
+use std::alloc::AllocError;
+use std::marker::Model;
+use thiserror::Error;
+
+/// Why a number of objects and a list of entries are no weights.
+#[derive(Clone, Copy, Debug, PartialEq, Eq, Error)]
+pub enum WeightsFault {
+    /// n is outside 1 to 512, or there are not n * n entries.
+    #[error("Size")]
+    Size,
+    /// The absolute values off the diagonal sum to this, which is more than 10^18.
+    #[error("TooHeavy")]
+    TooHeavy(i128),
+}
+
+/// The weights of a linear ordering problem, row by row in one list.
+#[derive(Drop)]
+pub struct Weights {
+    size: u16,
+    entries: Vec<i64>,
+}
+
+impl Model for Weights {
+    ghost use Rattle.lop_model.specs.Matrix.{Matrix, matrix_of, AreWeights};
+
+    ghost Value = { Matrix };
+
+    ghost view = { λ w. matrix_of w.size w.entries.items };
+
+    ghost invariant = { λ w. AreWeights w.size w.entries.items };
+}
+
+/// The entry in row a and column b of n rows that lie one after another.
+fn entry_at(entries: &[i64], n: usize, a: usize, b: usize) -> i64
+    requires square { length entries.now ≡ n * n }
+    requires within_limit { n ≤ 512 }
+    requires row { a < n }
+    requires column { b < n }
+    ensures { result ≡ entry (matrix_of n entries.now) a b }
+{
+    entries[a * n + b]
+}
+
+/// The absolute values of the two entries of a pair.
+fn pair_absolute_at(entries: &[i64], n: usize, a: usize, b: usize) -> i128
+    requires square { length entries.now ≡ n * n }
+    requires within_limit { n ≤ 512 }
+    requires row { a < n }
+    requires column { b < n }
+    ensures value { result ≡ pair_absolute (matrix_of n entries.now) a b }
+    ensures high { result ≤ℤ pos (2 ^ 65) }
+{
+    let upper = entry_at(entries, n, a, b).unsigned_abs();
+    let lower = entry_at(entries, n, b, a).unsigned_abs();
+    i128::from(upper) + i128::from(lower)
+}
+
+fn absolute_sum(entries: &[i64], n: usize) -> i128
+    requires square { length entries.now ≡ n * n }
+    requires within_limit { n ≤ 512 }
+    ensures { result ≡ absolute_total (matrix_of n entries.now) }
+{
+    let mut sum: i128 = 0;
+    for j in 0..n {
+        for i in 0..j {
+            sum += pair_absolute_at(entries, n, i, j);
+        }
+    }
+    sum
+}
+
+impl Weights {
+    ghost use Rattle.lop_model.specs.Matrix.{entry, total, matrix_of, AreWeights, IsWeights};
+    ghost use Rattle.lop_model.specs.WeightsFault.{IsFault};
+
+    pub fn new(n: u16, entries: Vec<i64>) -> Result<Self, WeightsFault>
+        ensures ok { IfOk result (λ w. AreWeights n entries.items × (w ≡ matrix_of n entries.items)) }
+        ensures fault { IfErr result (IsFault n entries.items) }
+    {
+        let size = n as usize;
+        if n < 1 || n > 512 || entries.len() != size * size {
+            return Err(WeightsFault::Size);
+        }
+        let sum = absolute_sum(&entries, size);
+        if sum > 1_000_000_000_000_000_000 {
+            return Err(WeightsFault::TooHeavy(sum));
+        }
+        Ok(Weights { size: n, entries })
+    }
+
+    pub fn n(&self) -> u16
+        ensures size { result ≡ self.now.size }
+        ensures weights { IsWeights self.now }
+    {
+        self.size
+    }
+
+    pub fn at(&self, a: u16, b: u16) -> i64
+        requires row { a < self.now.size }
+        requires column { b < self.now.size }
+        ensures { result ≡ entry self.now a b }
+    {
+        entry_at(&self.entries, self.size as usize, a as usize, b as usize)
+    }
+
+    /// The sum of the entries off the diagonal.
+    pub fn total(&self) -> i128
+        ensures { result ≡ total self.now }
+    {
+        let mut sum: i128 = 0;
+        for j in 0..self.size {
+            for i in 0..j {
+                sum += i128::from(self.at(i, j)) + i128::from(self.at(j, i));
+            }
+        }
+        sum
+    }
+
+    pub fn copy(&self) -> Result<Self, AllocError>
+        ensures { IfOk result (λ w. w ≡ self.now) }
+    {
+        let entries = self.entries.clone()?;
+        Ok(Weights {
+            size: self.size,
+            entries,
+        })
+    }
+}

@@ -1,0 +1,4 @@
+pub mod StartLemmas
+pub mod Printed
+pub mod Ends
+pub mod Promises

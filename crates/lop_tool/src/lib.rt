@@ -1,5 +1,12 @@
-//! The solver's one call.
+//! The one call that the program makes, and its promises.
 #![tactic(auto)]
 
 mod bound;
+mod reply;
+mod report;
+mod solve;
 mod start;
+mod top;
+mod words;
+
+pub use top::run;

@@ -1,0 +1,59 @@
+-- What a run replies.
+use Rattle.std.specs.Prelude.{◌≡◌, ℕ, ◌^◌, List, [], length, ◌++◌, codes, ℤ, pos, ◌≤ℤ◌, if◌then◌else◌}
+use Rattle.lop_model.specs.Order.{IsOrder}
+use Rattle.lop_model.specs.Matrix.{Matrix, weight, IsUpperBound}
+use Rattle.lop_model.specs.Bound.{pair_bound}
+use Rattle.lop_tool.specs.declared.reply.Solution.{Solution}
+use Rattle.lop_tool.specs.declared.reply.InputRefusal.{InputRefusal}
+use Rattle.lop_tool.specs.declared.reply.InputRefusal.TheVariants.{TooLong, Lolib}
+use Rattle.lop_tool.specs.declared.reply.Refusal.{Refusal}
+use Rattle.lop_tool.specs.declared.reply.Refusal.TheVariants.{Words, Input}
+use Rattle.lop_tool.specs.declared.reply.Reply.{Reply}
+use Rattle.lop_tool.specs.declared.reply.Reply.TheVariants.{Refused, Solved}
+use Rattle.lop_tool.specs.StartOrder.{IsBeckerOrder}
+use Rattle.lop_tool.specs.AnswerText.{is_optimal, solve_text}
+
+abbrev pub input_refusal_word : InputRefusal → List ℕ
+input_refusal_word TooLong = codes "too-long"
+input_refusal_word Lolib = codes "lolib"
+
+abbrev pub refusal_word : Refusal → List ℕ
+refusal_word Words = codes "words"
+refusal_word (Input refusal) = input_refusal_word refusal
+
+abbrev pub refusal_line : Refusal → List ℕ
+refusal_line refusal = codes "refused " ++ refusal_word refusal ++ codes "\n"
+
+abbrev pub refusal_status : Refusal → ℕ
+refusal_status Words = 2
+refusal_status (Input refusal) = 3
+
+abbrev pub solution_text : Solution → List ℕ
+solution_text x = solve_text x.weights x.order x.answer.value x.answer.bound x.answer.nodes
+
+-- 0 exactly where value and bound are the same
+abbrev pub solved_status : ℤ → ℤ → ℕ
+solved_status value bound = if is_optimal value bound then 0 else 6
+
+abbrev pub reply_text : Reply → List ℕ
+reply_text (Refused refusal) = refusal_line refusal
+reply_text (Solved x) = solution_text x
+
+abbrev pub reply_status : Reply → ℕ
+reply_status (Refused refusal) = refusal_status refusal
+reply_status (Solved x) = solved_status x.answer.value x.answer.bound
+
+-- the order is the start order, the value its weight, the bound the pair bound, which no order's weight exceeds;
+-- a node is evaluated only where the two differ
+pub record IsSolution (C : Matrix) (s : List ℕ) (value bound : ℤ) (nodes : ℕ) : Type 0 where
+  pub order : IsOrder C.size s
+  pub start : IsBeckerOrder C s
+  pub value_is : value ≡ weight C s
+  pub bound_is : bound ≡ pair_bound C []
+  pub bounds : IsUpperBound C bound
+  pub nodes_are : nodes ≡ (if is_optimal value bound then 0 else 1)
+
+-- what printing asks of a reply
+abbrev pub IsPrintable : Reply → Type 0
+IsPrintable (Refused refusal) = Unit {0}
+IsPrintable (Solved x) = (length x.order ≡ x.weights.size) × (x.answer.value ≤ℤ pos (2 ^ 63))

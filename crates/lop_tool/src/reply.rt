@@ -1,0 +1,111 @@
+// What a run replies, and how it is printed.
+ghost use Rattle.std.specs.Prelude.{◌≡◌, ◌≤◌, length, codes};
+ghost use Rattle.lop_desk.specs.Whole.{PrintsAll};
+ghost use Rattle.lop_desk.specs.Causes.{HasCause};
+ghost use Rattle.lop_tool.specs.Reply.{refusal_word, refusal_line, refusal_status, reply_text, reply_status, IsPrintable};
+
+use crate::report::{Answer, print_answer};
+use lop_desk::{Desk, DeskFailed, TextRoom, print_all};
+use lop_model::{Order, Weights};
+
+/// Why an input file is refused.
+#[derive(Clone, Copy)]
+pub enum InputRefusal {
+    TooLong,
+    Lolib,
+}
+
+/// Why a command is refused.
+#[derive(Clone, Copy)]
+pub enum Refusal {
+    Words,
+    Input(InputRefusal),
+}
+
+/// What a file of weights comes to.
+#[derive(Drop)]
+pub struct Solution {
+    pub weights: Weights,
+    pub order: Order,
+    pub answer: Answer,
+}
+
+/// What a run replies.
+#[derive(Drop)]
+pub enum Reply {
+    Refused(Refusal),
+    Solved(Solution),
+}
+
+/// Why a run has no reply.
+#[derive(Clone, Copy)]
+pub enum Stop {
+    Fault,
+    Memory,
+}
+
+impl Refusal {
+    fn word(self) -> &'static [u8]
+        ensures word { result.now ≡ refusal_word self }
+        ensures short { length result.now ≤ 64 }
+    {
+        match self {
+            Refusal::Words => b"words",
+            Refusal::Input(InputRefusal::TooLong) => b"too-long",
+            Refusal::Input(InputRefusal::Lolib) => b"lolib",
+        }
+    }
+
+    fn status(self) -> u8
+        ensures { result ≡ refusal_status self }
+    {
+        match self {
+            Refusal::Words => 2,
+            Refusal::Input(_) => 3,
+        }
+    }
+}
+
+impl Reply {
+    /// The status with which the run ends.
+    pub fn status(&self) -> u8
+        ensures { result ≡ reply_status self.now }
+    {
+        match self {
+            Reply::Refused(refusal) => refusal.status(),
+            Reply::Solved(solution) if solution.answer.value == solution.answer.bound => 0,
+            Reply::Solved(_) => 6,
+        }
+    }
+}
+
+/// Prints the reply, line by line.
+pub fn print_reply<D: Desk>(
+    reply: &Reply,
+    desk: &mut D,
+    room: &mut TextRoom,
+) -> Result<(), DeskFailed>
+    requires { IsPrintable reply.now }
+    ensures effect { PrintsAll (D.told desk.old) (D.told desk.new) (reply_text reply.now) result }
+    ensures cause { HasCause (D.faults desk.old) (D.faults desk.new) result }
+{
+    match reply {
+        Reply::Refused(refusal) => print_refusal(*refusal, desk, room),
+        Reply::Solved(x) => print_answer(&x.answer, &x.order, &x.weights, desk, room),
+    }
+}
+
+fn print_refusal<D: Desk>(
+    refusal: Refusal,
+    desk: &mut D,
+    room: &mut TextRoom,
+) -> Result<(), DeskFailed>
+    ensures effect { PrintsAll (D.told desk.old) (D.told desk.new) (refusal_line refusal) result }
+    ensures cause { HasCause (D.faults desk.old) (D.faults desk.new) result }
+{
+    room.clear();
+    room.put(b"refused ");
+    room.put(refusal.word());
+    room.put(b"\n");
+    print_all(desk, room.bytes())
+}

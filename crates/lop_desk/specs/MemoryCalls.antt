@@ -5,6 +5,7 @@ use Rattle.lop_desk.specs.MemoryState.{MemoryState, IsListed, after_call, after_
 use Rattle.lop_desk.specs.declared.desk.OpenFault.{OpenFault}
 use Rattle.lop_desk.specs.declared.desk.OpenFault.TheVariants.{Failed, Missing, Memory}
 
+-- each answer of `open_file` but Ok, and what it leaves
 abbrev pub FailsToOpen : MemoryState → MemoryState → List ℕ → OpenFault → Type 0
 FailsToOpen old new name Failed = IsListed old × (new ≡ after_fault (record old.world { opened = None }) old)
 FailsToOpen old new name Missing = ¬ IsListed old × IsNone (file_named old.world.files name) × (new ≡ after_call (record old.world { opened = None }) old)
@@ -20,9 +21,10 @@ OpensInMemory old new name result = MatchResult result
 abbrev pub ReadsInMemory : {E : Type 0} → MemoryState → MemoryState → List ℕ → List ℕ → Result ℕ E → Type 0
 ReadsInMemory old new before after result = MatchResult result
     (λ k. ¬ IsListed old × (k ≡ min (length after) (length (unread old.world))) × (after ≡ take k (unread old.world) ++ drop k before)
-        × (new ≡ after_call (record old.world { opened = place_moved k old.world.opened }) old))
+    × (new ≡ after_call (record old.world { opened = place_moved k old.world.opened }) old))
     (λ _. IsListed old × (new ≡ after_fault old.world old))
 
+-- each answer of `create` but Ok, and what it leaves
 abbrev pub FailsToCreate : MemoryState → MemoryState → OpenFault → Type 0
 FailsToCreate old new Failed = IsListed old × (new ≡ after_fault (record old.world { made = None }) old)
 FailsToCreate old new Missing = ⊥
@@ -42,7 +44,7 @@ TakesFree free piece taken = MatchOption taken (free ≡ 0) (λ k. (0 < free) ×
 abbrev pub WritesInMemory : {E : Type 0} → MemoryState → MemoryState → List ℕ → Result ℕ E → Type 0
 WritesInMemory old new piece result = MatchResult result
     (λ k. ¬ IsListed old × (0 < free_to_write old) × (k ≡ min (length piece) (free_to_write old))
-        × (new ≡ after_call (record old.world { made = bytes_added (take k piece) old.world.made }) old))
+    × (new ≡ after_call (record old.world { made = bytes_added (take k piece) old.world.made }) old))
     (λ _. (IsListed old ⊎ (free_to_write old ≡ 0)) × (new ≡ after_fault old.world old))
 
 -- `finish` fails exactly where the list names it; else the made file stands among the files
@@ -55,5 +57,5 @@ FinishesInMemory old new result = MatchResult result
 abbrev pub PrintsInMemory : {E : Type 0} → MemoryState → MemoryState → List ℕ → Result ℕ E → Type 0
 PrintsInMemory old new piece result = MatchResult result
     (λ k. ¬ IsListed old × (0 < free_to_print old) × (k ≡ min (length piece) (free_to_print old))
-        × (new ≡ after_call (record old.world { printed = old.world.printed ++ take k piece }) old))
+    × (new ≡ after_call (record old.world { printed = old.world.printed ++ take k piece }) old))
     (λ _. (IsListed old ⊎ (free_to_print old ≡ 0)) × (new ≡ after_fault old.world old))

@@ -64,7 +64,12 @@ fn numbers(rt: HostRuntime) {
     for (word, value) in whole {
         assert_eq!(rt; whole_number(word.as_bytes()), value, "at {word}");
     }
-    let spelled = [("99999999999999999999999", true), ("-00", true), ("+", false), ("1 ", false)];
+    let spelled = [
+        ("99999999999999999999999", true),
+        ("-00", true),
+        ("+", false),
+        ("1 ", false),
+    ];
     for (word, answer) in spelled {
         assert_eq!(rt; is_whole(word.as_bytes()), answer, "at {word}");
     }
@@ -138,10 +143,25 @@ fn whole_files(rt: HostRuntime) -> Result<(), Fail> {
     let mut memory = desk(alloc, &bytes, &[12], 0)?;
     let read = read_whole(alloc, &mut memory, "a", 65_537);
     assert!(rt; matches!(read, Ok(whole) if whole == bytes));
-    assert!(rt; matches!(read_whole(alloc, &mut memory, "a", 65_536), Err(ReadStop::TooLong)));
-    assert!(rt; matches!(read_whole(alloc, &mut memory, "b", 9), Err(ReadStop::Failed)));
+    assert!(rt;
+        matches!(
+            read_whole(alloc, &mut memory, "a", 65_536),
+            Err(ReadStop::TooLong)
+        )
+    );
+    assert!(rt;
+        matches!(
+            read_whole(alloc, &mut memory, "b", 9),
+            Err(ReadStop::Failed)
+        )
+    );
     assert_eq!(rt; memory.faults(), 0);
-    assert!(rt; matches!(read_whole(alloc, &mut memory, "a", 65_537), Err(ReadStop::Failed)));
+    assert!(rt;
+        matches!(
+            read_whole(alloc, &mut memory, "a", 65_537),
+            Err(ReadStop::Failed)
+        )
+    );
     assert_eq!(rt; memory.faults(), 1);
     Ok(())
 }

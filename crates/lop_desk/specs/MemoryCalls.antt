@@ -1,6 +1,6 @@
 -- What each call of a desk in memory answers and does, exactly.
-use Rattle.std.specs.Prelude.{◌≡◌, ◌⊎◌, ℕ, ◌<◌, min, List, [], ◌++◌, length, take, drop, ⊤, Option, None, Some, IsSome, IsNone, Result, MatchResult, MatchOption}
-use Rattle.lop_desk.specs.World.{World, Opened, NamedFile, file_named, unread, place_moved, bytes_added, put_made}
+use Rattle.std.specs.Prelude.{◌≡◌, ◌⊎◌, ℕ, ◌<◌, min, List, [], ◌++◌, length, take, drop, Option, None, Some, IsSome, IsNone, Result, MatchResult, MatchOption}
+use Rattle.lop_desk.specs.World.{file_named, unread, place_moved, bytes_added, put_made}
 use Rattle.lop_desk.specs.MemoryState.{MemoryState, IsListed, after_call, after_fault, free_to_print, free_to_write}
 use Rattle.lop_desk.specs.declared.desk.OpenFault.{OpenFault}
 use Rattle.lop_desk.specs.declared.desk.OpenFault.TheVariants.{Failed, Missing, Memory}

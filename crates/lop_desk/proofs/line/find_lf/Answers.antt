@@ -1,7 +1,6 @@
-use Rattle.std.proofs.Common.{◌+◌, ◌-◌, length, subst, arith, length-drop}
+use Rattle.std.proofs.Common.{◌-◌, length, arith, length-drop}
 use Rattle.std.proofs.lemmas.List.{take_rest}
 use Rattle.lop_desk.proofs.NextLine.{none_up_to, lf_behind}
-use Rattle.lop_desk.specs.LineState.{NoLf}
 use Rattle.lop_desk.proofs.line.find_lf.Goals as goal
 
 pub returns-in-None : goal.returns-in-None

@@ -1,4 +1,4 @@
-use Rattle.std.proofs.Common.{◌≡◌, ◌<◌, ◌+◌, ◌∙◌, sym, true, false, length, arith, IsSome, get_or}
+use Rattle.std.proofs.Common.{◌≡◌, ◌∙◌, sym, true, false, arith, IsSome}
 use Rattle.std.proofs.lemmas.List.{take_rest}
 use Rattle.lop_desk.proofs.Files.{distinct_more, not_distinct, some_as_copied}
 use Rattle.lop_desk.proofs.memory.has_distinct_names.Goals as goal

@@ -29,6 +29,17 @@ fn extend(bytes: &mut Vec<u8>, byte: u8, count: usize) -> Result<(), AllocError>
     bytes.resize(more, byte)
 }
 
+// How many bytes a file has, by reading it whole.
+fn read_length(
+    alloc: Global,
+    memory: &mut MemoryDesk,
+    name: &str,
+    limit: usize,
+) -> Result<usize, ReadStop> {
+    let bytes = read_whole(alloc, memory, name, limit)?;
+    Ok(bytes.len())
+}
+
 // The next line: its length and whether an LF ended it.
 fn line(reader: &mut LineReader, memory: &mut MemoryDesk) -> Result<Option<(usize, bool)>, LineStop>
     requires opened { IsOpen (Some memory.old.world) }
@@ -141,26 +152,19 @@ fn whole_files(rt: HostRuntime) -> Result<(), Fail> {
     extend(&mut bytes, b'x', 65_537)?;
     // Each reading that ends well makes three reads: of 65,536 bytes, of one, and of none. Call 12 is the last of them.
     let mut memory = desk(alloc, &bytes, &[12], 0)?;
-    let read = read_whole(alloc, &mut memory, "a", 65_537);
-    assert!(rt; matches!(read, Ok(whole) if whole == bytes));
-    assert!(rt;
-        matches!(
-            read_whole(alloc, &mut memory, "a", 65_536),
-            Err(ReadStop::TooLong)
-        )
+    assert_eq!(rt; read_length(alloc, &mut memory, "a", 65_537), Ok(65_537));
+    assert_eq!(rt;
+        read_length(alloc, &mut memory, "a", 65_536),
+        Err(ReadStop::TooLong)
     );
-    assert!(rt;
-        matches!(
-            read_whole(alloc, &mut memory, "b", 9),
-            Err(ReadStop::Failed)
-        )
+    assert_eq!(rt;
+        read_length(alloc, &mut memory, "b", 9),
+        Err(ReadStop::Failed)
     );
     assert_eq!(rt; memory.faults(), 0);
-    assert!(rt;
-        matches!(
-            read_whole(alloc, &mut memory, "a", 65_537),
-            Err(ReadStop::Failed)
-        )
+    assert_eq!(rt;
+        read_length(alloc, &mut memory, "a", 65_537),
+        Err(ReadStop::Failed)
     );
     assert_eq!(rt; memory.faults(), 1);
     Ok(())

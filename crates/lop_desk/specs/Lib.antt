@@ -4,6 +4,7 @@ pub mod Causes
 pub mod Desk
 pub mod Whole
 pub mod MemoryState
+pub mod MemoryCalls
 pub mod Memory
 pub mod LineState
 pub mod Line

@@ -2,7 +2,7 @@
 ghost use Rattle.std.specs.Prelude.{◌≡◌, ◌≤◌, ◌<◌, ◌+◌, ◌*◌, ◌^◌, ℕ, length, MatchOption, true, IsTrue, ◌↔◌, nat_abs};
 ghost use Rattle.lop_desk.specs.Number.{all_digits, digits_value, IsPlain, IsWhole, unsigned_word, whole_value};
 
-// The value of digits, where it fits.
+// The value of digits, where all bytes are and it fits.
 fn digits(word: &[u8]) -> Option<u64>
     ensures { MatchOption result (all_digits word.now ≡ true → 2 ^ 64 ≤ digits_value word.now)
         (λ n. (all_digits word.now ≡ true) × (n ≡ digits_value word.now)) }
@@ -32,7 +32,7 @@ fn shifted(value: u64, digit: u8) -> Option<u64>
     Some(next as u64)
 }
 
-/// The value of `0`, or of digits that don't begin with 0, where it fits.
+/// The value of `0`, or of digits that don't begin with 0, where it fits 64 bits. Cost: O(k) for k bytes.
 pub fn plain_number(word: &[u8]) -> Option<u64>
     ensures { MatchOption result (IsPlain word.now → 2 ^ 64 ≤ digits_value word.now)
         (λ n. IsPlain word.now × (n ≡ digits_value word.now)) }
@@ -53,7 +53,7 @@ fn unsigned(word: &[u8]) -> &[u8]
     }
 }
 
-/// An optional sign, and one or more digits.
+/// Whether the word is an optional sign, and one or more digits, however many. Cost: O(k) for k bytes.
 pub fn is_whole(word: &[u8]) -> bool
     ensures { IsTrue result ↔ IsWhole word.now }
 {
@@ -72,7 +72,8 @@ fn are_digits(word: &[u8]) -> bool
     true
 }
 
-/// The value of an optional sign and one or more digits, where it is at most 10^18 in absolute value.
+/// The value of an optional sign and one or more digits, where it is at most 10^18 in absolute value. Zeros in
+/// front don't count, so a word may have any length. Cost: O(k) for k bytes, a multiplication for each.
 pub fn whole_number(word: &[u8]) -> Option<i128>
     ensures { MatchOption result (IsWhole word.now → 10 ^ 18 < nat_abs (whole_value word.now))
         (λ n. IsWhole word.now × (n ≡ whole_value word.now) × (nat_abs n ≤ 10 ^ 18)) }
@@ -89,4 +90,5 @@ pub fn whole_number(word: &[u8]) -> Option<i128>
     Some(if word[0] == b'-' { -value } else { value })
 }
 
+// The largest absolute value of a whole number.
 const LARGEST: u64 = 1_000_000_000_000_000_000;

@@ -1,4 +1,4 @@
-use Rattle.std.proofs.Common.{◌≡◌, ◌≤◌, ◌+◌, ◌-◌, ◌*◌, drop, get_or, refl, arith}
+use Rattle.std.proofs.Common.{◌+◌, ◌-◌, ◌*◌, drop, get_or, refl, arith}
 use Rattle.lop_desk.proofs.Digits.{value_grows, value_step}
 use Rattle.lop_desk.proofs.number.digits.Goals as goal
 

@@ -94,7 +94,11 @@ fn calls_that_fail(rt: HostRuntime) -> Result<(), Fail> {
         (&[1], 1000, b""),
         (&[3], 1000, b""),
         (&[7], 1000, b"objects 3\norder 1 2 3\nvalue 10\n"),
-        (&[11], 1000, b"objects 3\norder 1 2 3\nvalue 10\nbound 12\nstatus spent\nnodes 1\ntotal 16\n"),
+        (
+            &[11],
+            1000,
+            b"objects 3\norder 1 2 3\nvalue 10\nbound 12\nstatus spent\nnodes 1\ntotal 16\n",
+        ),
         (&[], 12, b"objects 3\nor"),
     ];
     for (failing, room, printed) in cases {

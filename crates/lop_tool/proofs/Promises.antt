@@ -1,20 +1,14 @@
 -- Each promise of a run, from how it ended.
-use Rattle.std.proofs.Common.{◌≡◌, ◌⊎◌, ℕ, ◌+◌, ◌<◌, ◌≤◌, Bool, true, false, cond, List, Option, None, Some, IfSome, Result, Ok, Err, inl, inr, refl, sym, ◌∙◌, ap, subst, arith}
-use Rattle.std.proofs.lemmas.Bool.Decides.{nat_tests}
-use Rattle.lop_desk.specs.World.{World, NamedFile, file_named}
-use Rattle.lop_model.specs.Matrix.{Matrix}
-use Rattle.lop_desk.specs.Causes.{Rose}
+use Rattle.std.proofs.Common.{◌≡◌, ◌⊎◌, ℕ, Bool, true, false, cond, Option, None, Some, IfSome, inl, inr, arith}
+use Rattle.lop_desk.specs.World.{World}
 use Rattle.lop_tool.specs.declared.words.Command.{Command}
 use Rattle.lop_tool.specs.declared.words.Command.TheVariants.{Solve}
-use Rattle.lop_tool.specs.declared.reply.InputRefusal.{InputRefusal}
-use Rattle.lop_tool.specs.declared.reply.Refusal.{Refusal}
 use Rattle.lop_tool.specs.declared.reply.Refusal.TheVariants.{Words, Input}
-use Rattle.lop_tool.specs.declared.reply.Reply.{Reply}
 use Rattle.lop_tool.specs.declared.reply.Reply.TheVariants.{Refused, Solved}
 use Rattle.lop_tool.specs.declared.reply.Solution.{Solution}
 use Rattle.lop_tool.specs.AnswerText.{is_optimal}
-use Rattle.lop_tool.specs.Reply.{IsSolution, reply_text, reply_status, solved_status, refusal_line, solution_text}
-use Rattle.lop_tool.specs.Run.{Ended, replied, cut_off, faulted, lacked, Answers, PrintsOnly, reply_input, input_for, Solves}
+use Rattle.lop_tool.specs.Reply.{solved_status, refusal_line, solution_text}
+use Rattle.lop_tool.specs.Run.{Ended, replied, cut_off, faulted, lacked, Answers, PrintsOnly, Solves}
 
 -- a solved file ends with 0 or 6
 solved_is : (b : Bool) (status : ℕ) → status ≡ cond b 0 6 → (status ≡ 0) ⊎ (status ≡ 6)

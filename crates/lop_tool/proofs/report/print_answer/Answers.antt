@@ -1,4 +1,4 @@
-use Rattle.std.proofs.Common.{List, ℕ, ◌≤◌, length, rules, FitsSigned, arith}
+use Rattle.std.proofs.Common.{List, ℕ, rules, FitsSigned}
 use Rattle.std.specs.Int.{w128}
 use Rattle.std.proofs.lemmas.Int.{to_z-of_z}
 use Rattle.lop_model.specs.Matrix.{total}

@@ -2,7 +2,7 @@ use Rattle.std.proofs.Common.{rules, FitsSigned}
 use Rattle.std.specs.Prelude.{codes, pos, List, ℕ, length}
 use Rattle.std.specs.Int.{w128}
 use Rattle.std.proofs.lemmas.Int.{to_z-of_z}
-use Rattle.lop_tool.specs.AnswerText.{number_line, order_line, status_line, linearity_line}
+use Rattle.lop_tool.specs.AnswerText.{number_line, order_line}
 use Rattle.lop_tool.proofs.Printed.{cut_in_first, cut_in_second, cut_in_third, four_printed}
 use Rattle.lop_tool.proofs.report.print_order_lines.Goals as goal
 

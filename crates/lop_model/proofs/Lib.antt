@@ -3,4 +3,5 @@ pub mod OrderLemmas
 pub mod MatrixLemmas
 pub mod BoundLemmas
 pub mod FixingsLemmas
+pub mod ClosureLemmas
 pub mod InsertLemmas

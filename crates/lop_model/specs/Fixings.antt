@@ -40,3 +40,15 @@ pub record IsBranchingPrefix (n : ℕ) (path : List Pair) (k : ℕ) : Type 0 whe
 -- each pair of the path is undecided under the pairs before it
 abbrev pub IsBranchingPath : ℕ → List Pair → Type 0
 IsBranchingPath n path = IsBranchingPrefix n path (length path)
+
+-- a chain of F leads from one of the two to the other
+abbrev pub IsDecided : List Pair → ℕ → ℕ → Type 0
+IsDecided F a b = LeadsTo F a b ⊎ LeadsTo F b a
+
+-- each two objects below n are decided
+pub record AreAllDecided (n : ℕ) (F : List Pair) : Type 0 where
+  pub each : (a b : ℕ) → a < b → b < n → IsDecided F a b
+
+-- the same orders extend F and G
+pub record HaveSameExtensions (F G : List Pair) : Type 0 where
+  pub each : (s : List ℕ) → IsLinearExtension s F ↔ IsLinearExtension s G

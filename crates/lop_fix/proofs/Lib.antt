@@ -1,0 +1,5 @@
+pub mod PairLemmas
+pub mod RisingLemmas
+pub mod TableLemmas
+pub mod LinkLemmas
+pub mod TableFixings

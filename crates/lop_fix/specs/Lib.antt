@@ -1,0 +1,3 @@
+pub mod Table
+pub mod PartialOrder
+pub mod Answers

@@ -1,0 +1,9 @@
+//! Pairs of objects whose order is fixed, with all that follows from them.
+#![tactic(auto)]
+
+mod fixings;
+mod table;
+#[cfg(test)]
+mod tests;
+
+pub use fixings::{Decision, Fixings, PathFault};

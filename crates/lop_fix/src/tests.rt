@@ -1,0 +1,105 @@
+use crate::{Decision, Fixings, PathFault};
+use lop_model::Pair;
+use std::alloc::Global;
+use std::test::Fail;
+
+fn pair(before: u16, after: u16) -> Pair {
+    Pair { before, after }
+}
+
+// How two objects stand to each other, where they are two objects of the fixings.
+fn decision(fixings: &Fixings, a: u16, b: u16) -> Option<Decision> {
+    let n = fixings.n();
+    if a < n && b < n && a != b {
+        Some(fixings.decided(a, b))
+    } else {
+        None
+    }
+}
+
+// Adds an undecided pair, and says whether it is one.
+fn add(fixings: &mut Fixings, a: u16, b: u16) -> bool {
+    let n = fixings.n();
+    if a >= n || b >= n || a == b {
+        return false;
+    }
+    match fixings.decided(a, b) {
+        Decision::Undecided => {
+            fixings.add(Pair {
+                before: a,
+                after: b,
+            });
+            true
+        }
+        Decision::Before | Decision::After => false,
+    }
+}
+
+// What a path of pairs of two objects each leaves.
+fn of_path(fixings: &mut Fixings, path: &[Pair]) -> Option<Result<(), PathFault>> {
+    let n = fixings.n();
+    if path
+        .iter()
+        .all(|p| p.before < n && p.after < n && p.before != p.after)
+    {
+        Some(fixings.of_path(path))
+    } else {
+        None
+    }
+}
+
+#[test]
+fn chains_of_three(rt: HostRuntime) -> Result<(), Fail> {
+    let mut fixings = Fixings::new(rt.alloc(), 3)?;
+    assert_eq!(rt; fixings.n(), 3);
+    assert_eq!(rt; fixings.first_undecided(), Some(pair(0, 1)));
+    assert!(rt; add(&mut fixings, 2, 0));
+    assert_eq!(rt; fixings.first_undecided(), Some(pair(0, 1)));
+    assert!(rt; add(&mut fixings, 0, 1));
+    assert_eq!(rt; decision(&fixings, 2, 1), Some(Decision::Before));
+    assert_eq!(rt; decision(&fixings, 1, 2), Some(Decision::After));
+    assert_eq!(rt; fixings.first_undecided(), None);
+    assert!(rt; !add(&mut fixings, 1, 2));
+    fixings.clear();
+    assert_eq!(rt; decision(&fixings, 2, 0), Some(Decision::Undecided));
+    Ok(())
+}
+
+// The chain 63, 69, 0, 64 of 70 objects crosses the bound of two words both ways.
+#[test]
+fn chains_across_words(rt: HostRuntime) -> Result<(), Fail> {
+    let mut fixings = Fixings::new(rt.alloc(), 70)?;
+    let path = [pair(69, 0), pair(0, 64), pair(63, 69), pair(64, 63)];
+    assert_eq!(rt;
+        of_path(&mut fixings, &path),
+        Some(Err(PathFault::Decided(3)))
+    );
+    assert_eq!(rt; of_path(&mut fixings, &path[..3]), Some(Ok(())));
+    for (a, b) in [(63, 69), (63, 0), (63, 64), (69, 0), (69, 64), (0, 64)] {
+        assert_eq!(rt; decision(&fixings, a, b), Some(Decision::Before), "{a} {b}");
+        assert_eq!(rt; decision(&fixings, b, a), Some(Decision::After), "{b} {a}");
+    }
+    for (a, b) in [(62, 63), (64, 65), (1, 0), (69, 68)] {
+        assert_eq!(rt;
+            decision(&fixings, a, b),
+            Some(Decision::Undecided),
+            "{a} {b}"
+        );
+    }
+    Ok(())
+}
+
+fn sent<X: Send>(value: X) -> X {
+    value
+}
+
+fn shared<X: Sync>(_value: &X) {}
+
+// Fixings may be shared by threads and passed on: the check proves the bounds.
+#[test]
+fn may_cross_threads(rt: HostRuntime) -> Result<(), Fail> {
+    let fixings = Fixings::new(rt.alloc(), 1)?;
+    shared(&fixings);
+    assert_eq!(rt; sent(fixings).n(), 1);
+    Ok(())
+}

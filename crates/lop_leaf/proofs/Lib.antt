@@ -1,0 +1,3 @@
+pub mod FallLemmas
+pub mod QuotientLemmas
+pub mod PathLemmas

@@ -1,0 +1,135 @@
+-- Closures of branching paths, and the bounds that they give: what a node's children inherit.
+use Rattle.std.proofs.Common.{◌≡◌, ℕ, zero, suc, ◌+◌, ◌<◌, ◌≤◌, Bool, true, false, eqb, ltb, ◌&&◌, ◌||◌, List, [], ◌∷◌, ◌++◌, length, take, get_or, refl, sym, ◌∙◌, subst, ℤ, ◌≤ℤ◌, arith}
+use Rattle.std.specs.Prelude.{IsTrue}
+use Rattle.std.proofs.lemmas.List.{take_more, take_all}
+use Rattle.std.proofs.lemmas.Int.{ints}
+use Rattle.std.proofs.lemmas.Bool.Decides.{nat_tests}
+use Rattle.lop_model.specs.declared.pair.Pair.{Pair}
+use Rattle.lop_model.specs.Order.{IsOrder}
+use Rattle.lop_model.specs.Matrix.{Matrix, entry, weight}
+use Rattle.lop_model.specs.Fixings.{has_pair, one_pair, IsClosure, IsUndecided, IsBranchingPrefix, IsBranchingPath, IsLinearExtension}
+use Rattle.lop_model.specs.Bound.{pair_value, pair_bound}
+use Rattle.lop_model.proofs.SumLemmas.{pair_sum-same}
+use Rattle.lop_model.proofs.BoundLemmas.{weight-le-pair_bound}
+use Rattle.lop_model.proofs.FixingsLemmas.{IsLinearExtension-closure}
+use Rattle.lop_model.proofs.ClosureLemmas.{closed_more, no_cycle_more, chain-more, IsClosure-itself, IsClosure-none}
+use Rattle.lop_fix.specs.PartialOrder.{IsPartialOrder}
+use Rattle.lop_fix.specs.Table.{pair, pairs_of}
+use Rattle.lop_fix.proofs.PairLemmas.{has_pair-pairs_of}
+use Rattle.lop_fix.proofs.RisingLemmas.{pairs_of-rising}
+use Rattle.lop_fix.proofs.TableFixings.{has_pair-below, IsPartialOrder-none}
+use Rattle.lop_leaf.specs.Bound.{AreAmong}
+use Rattle.lop_leaf.specs.Sound.{Certifies}
+use Rattle.lop_leaf.proofs.FallLemmas.{pair_bound-falls}
+
+-- ---- one more pair
+
+-- what F's closed pairs and the pair p relate
+abbrev related_more : List Pair → Pair → ℕ → ℕ → Bool
+related_more G p x y = has_pair G x y || ((eqb x p.before || has_pair G x p.before) && (eqb y p.after || has_pair G p.after y))
+
+below_both : (g f h e k : Bool) (x y n : ℕ) → (IsTrue g → (x < n) × (y < n)) → (IsTrue (f || h) → x < n) → (IsTrue (e || k) → y < n) → ((ltb x n && ltb y n) && (g || ((f || h) && (e || k)))) ≡ (g || ((f || h) && (e || k)))
+below_both g f h e k x y n p q r = grind (arith, nat_tests)
+
+row_below : (x a n : ℕ) (h : Bool) → a < n → (IsTrue h → x < n) → IsTrue (eqb x a || h) → x < n
+row_below x a n h l p t = grind (arith, nat_tests)
+
+-- the closure of G and p, where G is closed
+abbrev more_pairs : ℕ → List Pair → Pair → List Pair
+more_pairs n G p = pairs_of n (related_more G p)
+
+module _ (n : ℕ) (F G : List Pair) (p : Pair) (closure : IsClosure F G) (is : IsPartialOrder (record { size = n; pairs = G })) (undecided : IsUndecided n F p.before p.after) where
+  joined : (x y : ℕ) → has_pair (more_pairs n G p) x y ≡ related_more G p x y
+  joined x y =
+      has_pair-pairs_of n (related_more G p) x y
+      ∙ below_both (has_pair G x y) (eqb x p.before) (has_pair G x p.before) (eqb y p.after) (has_pair G p.after y) x y n
+      (is.below x y)
+      (row_below x p.before n (has_pair G x p.before) undecided.first (λ t. (is.below x p.before t).0))
+      (row_below y p.after n (has_pair G p.after y) undecided.second (λ t. (is.below p.after y t).1))
+
+  closure_more : IsClosure (F ++ p ∷ []) (more_pairs n G p)
+  closure_more = record { each = closed_more (has_pair G) (has_pair (more_pairs n G p)) p F closure.each joined; rising = pairs_of-rising n (related_more G p) }
+
+  order_more : IsPartialOrder (record { size = n; pairs = more_pairs n G p })
+  order_more =
+      let closed = IsClosure-itself (F ++ p ∷ []) (more_pairs n G p) closure_more in
+      record {
+        closed = closed;
+        below = has_pair-below n (related_more G p);
+        no_cycle = λ a r.
+            no_cycle_more (has_pair G) (has_pair (more_pairs n G p)) p F closure.each joined undecided.differ
+            (λ t. undecided.not_after ((closure.each p.after p.before).0 t)) (λ x t. is.no_cycle x (one_pair t)) a ((closed.each a a).1 r);
+      }
+
+-- ---- a branching path has a closure, and it is a partial order
+
+pub record ClosedOrder (n : ℕ) (F : List Pair) : Type 0 where
+  pub pairs : List Pair
+  pub closure : IsClosure F pairs
+  pub order : IsPartialOrder (record { size = n; pairs = pairs })
+
+closed_more_order : (n : ℕ) (F : List Pair) (p : Pair) → ClosedOrder n F → IsUndecided n F p.before p.after → ClosedOrder n (F ++ p ∷ [])
+closed_more_order n F p c u = record {
+  pairs = more_pairs n c.pairs p;
+  closure = closure_more n F c.pairs p c.closure c.order u;
+  order = order_more n F c.pairs p c.closure c.order u;
+}
+
+closed_prefix : (n : ℕ) (path : List Pair) (k : ℕ) → k ≤ length path → IsBranchingPrefix n path k → ClosedOrder n (take k path)
+closed_prefix n path zero l h = record { pairs = []; closure = IsClosure-none; order = IsPartialOrder-none (record { size = n; pairs = [] }) refl }
+closed_prefix n path (suc k) l h =
+    let p : Pair = get_or path k (pair 0 0) in
+    let before : ClosedOrder n (take k path) = closed_prefix n path k (omega arith) (record { each = λ i d m. h.each i d (omega arith) }) in
+    let next : ClosedOrder n (take k path ++ p ∷ []) = closed_more_order n (take k path) p before (h.each k (pair 0 0) (omega arith)) in
+    let step : k + 1 ≡ suc k = omega arith in
+    subst (λ (j : ℕ). ClosedOrder n (take j path)) step (subst (λ (F : List Pair). ClosedOrder n F) (sym (take_more path k (pair 0 0) (omega arith))) next)
+
+pub ClosedOrder-path : (n : ℕ) (path : List Pair) → IsBranchingPath n path → ClosedOrder n path
+ClosedOrder-path n path h = subst (λ (F : List Pair). ClosedOrder n F) (take_all (length path) path (omega arith)) (closed_prefix n path (length path) (omega arith) h)
+
+-- ---- two closures of the same pairs
+
+same_tests : (f g : Bool) → (IsTrue f → IsTrue g) → (IsTrue g → IsTrue f) → f ≡ g
+same_tests true g p q = sym (p refl)
+same_tests false true p q = q refl
+same_tests false false p q = refl
+
+pub has_pair-closures : (F G H : List Pair) (a b : ℕ) → IsClosure F G → IsClosure F H → has_pair G a b ≡ has_pair H a b
+has_pair-closures F G H a b c d = same_tests (has_pair G a b) (has_pair H a b) (λ t. (d.each a b).1 ((c.each a b).0 t)) (λ t. (c.each a b).1 ((d.each a b).0 t))
+
+pub pair_bound-closures : (C : Matrix) (F G H : List Pair) → IsClosure F G → IsClosure F H → pair_bound C G ≡ pair_bound C H
+pair_bound-closures C F G H c d =
+    pair_sum-same C.size (pair_value G (entry C)) (pair_value H (entry C))
+    (λ i j _ _. rw (has_pair-closures F G H i j c d, has_pair-closures F G H j i c d) refl)
+
+-- every closure of a branching path is a partial order
+pub IsPartialOrder-closure : (n : ℕ) (path G : List Pair) → IsBranchingPath n path → IsClosure path G → IsPartialOrder (record { size = n; pairs = G })
+IsPartialOrder-closure n path G h c =
+    let own = ClosedOrder-path n path h in
+    record {
+      closed = IsClosure-itself path G c;
+      below = λ a b t. own.order.below a b (has_pair-closures path own.pairs G a b own.closure c ∙ t);
+      no_cycle = λ a r. own.order.no_cycle a (one_pair ((own.closure.each a a).1 ((c.each a a).0 (((IsClosure-itself path G c).each a a).1 r))));
+    }
+
+-- ---- what is certified
+
+-- no order that extends the path weighs more than what is certified under it
+pub weight-le-certified : (C : Matrix) (path : List Pair) (b : ℤ) (s : List ℕ) → IsBranchingPath C.size path → Certifies C path b → IsOrder C.size s → IsLinearExtension s path → weight C s ≤ℤ b
+weight-le-certified C path b s h certified o x =
+    let own = ClosedOrder-path C.size path h in
+    let within : weight C s ≤ℤ pair_bound C own.pairs = weight-le-pair_bound C own.pairs s o (IsLinearExtension-closure s path own.pairs own.closure x) in
+    let most : pair_bound C own.pairs ≤ℤ b = certified.each own.pairs own.closure in
+    omega (arith, ints)
+
+-- what is certified under a path is so under a longer one
+pub Certifies-more : (C : Matrix) (path more : List Pair) (b : ℤ) → IsBranchingPath C.size path → IsBranchingPath C.size (path ++ more) → Certifies C path b → Certifies C (path ++ more) b
+Certifies-more C path more b h k certified = record {
+  each = λ G c.
+      let own = ClosedOrder-path C.size path h in
+      let longer : IsPartialOrder (record { size = C.size; pairs = G }) = IsPartialOrder-closure C.size (path ++ more) G k c in
+      let among : AreAmong own.pairs G = record { each = λ a d t. (c.each a d).1 (chain-more more ((own.closure.each a d).0 t)) } in
+      let falls : pair_bound C G ≤ℤ pair_bound C own.pairs = pair_bound-falls C own.pairs (record { size = C.size; pairs = G }) longer among in
+      let most : pair_bound C own.pairs ≤ℤ b = certified.each own.pairs own.closure in
+      omega (arith, ints);
+}

@@ -1,0 +1,14 @@
+//! Upper bounds under fixings, and what passes between the search and those who evaluate its nodes.
+#![tactic(auto)]
+
+mod bound;
+mod evaluated;
+mod leaf_record;
+#[cfg(test)]
+mod tests;
+mod ticket;
+
+pub use bound::{PairRoom, bound_of, upper};
+pub use evaluated::Evaluated;
+pub use leaf_record::LeafRecord;
+pub use ticket::Ticket;

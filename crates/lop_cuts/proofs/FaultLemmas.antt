@@ -124,13 +124,13 @@ all_below-from_cycles n cycles right =
     P : List ℕ → Type 0
     P xs = All (λ x. x < n) xs
 
--- the same of the code's cycles, by the counts that the code tests
+-- the count of a ladder, by the tests that the code makes
+pub IsLadderCount-from_checks : (cycles : List Cycle) → 3 ≤ length cycles → length cycles ≤ 9 → length cycles % 2 ≢ 0 → IsLadderCount (map objects_of cycles)
+IsLadderCount-from_checks cycles low high odd =
+    let same = length-map cycles objects_of in
+    record { at_least = omega (arith, same); at_most = omega (arith, same); odd = omega (arith, same, odd) }
+
+-- the code's cycles are a ladder, by the tests that it makes
 pub IsLadder-from_checks : (n : ℕ) (cycles : List Cycle) → 3 ≤ length cycles → length cycles ≤ 9 → length cycles % 2 ≢ 0 → AreCycles n (map objects_of cycles) → IsLadder (map objects_of cycles)
 IsLadder-from_checks n cycles low high odd right =
-    let same = length-map cycles objects_of in
-    let count : IsLadderCount (map objects_of cycles) = record {
-      at_least = omega (arith, same);
-      at_most = omega (arith, same);
-      odd = omega (arith, same, odd);
-    } in
-    IsLadder-from_cycles n (map objects_of cycles) count right
+    IsLadder-from_cycles n (map objects_of cycles) (IsLadderCount-from_checks cycles low high odd) right

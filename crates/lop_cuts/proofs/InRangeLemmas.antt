@@ -10,7 +10,7 @@ use Rattle.lop_cuts.specs.Arcs.{same_arc, arcs_back_to, cycle_arcs, arcs_across,
 use Rattle.lop_cuts.specs.Kind.{arcs_of, objects_of, objects_in, FitsCut, IsArcBelow}
 
 module _ (n : ℕ) where
-  abbrev Below : List ℕ → Type 0
+  abbrev pub Below : List ℕ → Type 0
   Below xs = AllByRecursion (λ x. x < n) xs
 
   abbrev ArcsBelow : List Pair → Type 0
@@ -20,9 +20,9 @@ module _ (n : ℕ) where
   join [] ys h k = k
   join (x ∷ xs) ys h k = (h.0, join xs ys h.1 k)
 
-  parts : (xs ys : List ℕ) → Below (xs ++ ys) → Below xs × Below ys
-  parts [] ys h = (tt, h)
-  parts (x ∷ xs) ys h = let rest = parts xs ys h.1 in ((h.0, rest.0), rest.1)
+  pub below_parts : (xs ys : List ℕ) → Below (xs ++ ys) → Below xs × Below ys
+  below_parts [] ys h = (tt, h)
+  below_parts (x ∷ xs) ys h = let rest = below_parts xs ys h.1 in ((h.0, rest.0), rest.1)
 
   path_below : (first x : ℕ) (xs : List ℕ) → first < n → Below (x ∷ xs) → ArcsBelow (arcs_back_to first x xs)
   path_below first x [] f h = ((h.0, f), tt)
@@ -35,7 +35,7 @@ module _ (n : ℕ) where
   cycles_below : (cs : List Cycle) → Below (flat_map objects_of cs) → ArcsBelow (flat_map cycle_arcs (map objects_of cs))
   cycles_below [] h = tt
   cycles_below (c ∷ cs) h =
-      let both = parts (objects_of c) (flat_map objects_of cs) h in
+      let both = below_parts (objects_of c) (flat_map objects_of cs) h in
       join (cycle_arcs (objects_of c)) (flat_map cycle_arcs (map objects_of cs)) (cycle_below (objects_of c) both.0) (cycles_below cs both.1)
 
   filtered : (test : Pair → Bool) (xs : List Pair) → ArcsBelow xs → ArcsBelow (filter test xs)
@@ -71,7 +71,7 @@ module _ (n : ℕ) where
   below_by_kind : (kind : CutKind) → Below (objects_in kind) → ArcsBelow (arcs_of kind)
   below_by_kind (Dicycle objects) h = cycle_below objects h
   below_by_kind (Fence u w) h =
-      let both = parts u.items w.items h in
+      let both = below_parts u.items w.items h in
       posts_below (zip u.items w.items) (posts_from u.items w.items both.0 both.1)
   below_by_kind (Ladder cycles) h =
       distinct_below (flat_map cycle_arcs (map objects_of cycles.items)) (cycles_below cycles.items h)

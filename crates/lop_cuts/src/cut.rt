@@ -1,4 +1,4 @@
-ghost use Rattle.std.specs.Prelude.{◌≡◌, ℕ, [], ◌∷◌, ◌+◌, ◌≤◌, ◌++◌, length, map, All, IfOk, IfErr};
+ghost use Rattle.std.specs.Prelude.{◌≡◌, ℕ, [], ◌∷◌, ◌+◌, ◌≤◌, ◌++◌, length, map, All, IsOk, IfOk, IfErr};
 ghost use Rattle.std.specs.List.{IsDistinct};
 ghost use Rattle.lop_model.specs.Fixings.{has_pair};
 ghost use Rattle.lop_cuts.specs.Arcs.{same_arc};
@@ -8,10 +8,11 @@ use crate::objects::{check_cycles, check_objects, count_with};
 use crate::{CutFault, CutKind, Cycle};
 use arrayvec::ArrayVec;
 use lop_model::Pair;
+use std::cmp::Ordering;
 use std::marker::Model;
 
 /// A cut: a kind that meets the conditions of its kind. Equality and order are those of the kinds.
-#[derive(Debug, PartialEq, Eq, PartialOrd, Ord, Drop)]
+#[derive(Debug, Drop)]
 pub struct Cut {
     kind: CutKind,
 }
@@ -31,6 +32,7 @@ impl Model for Cut {
 
 impl Cut {
     ghost use Rattle.lop_cuts.specs.Kind.{IsCut, FitsCut, IsValidCut, IsArcBelow, arcs_of, right_side_of, objects_of, fence_of, ladder_of};
+    ghost use Rattle.lop_cuts.specs.declared.fault.CutFault.{CutFault};
     ghost use Rattle.lop_cuts.specs.Fault.{IsObjectFault, IsFenceFault, IsLadderFault};
 
     /// The 3-dicycle of the arcs from `a` to `b` to `c` and back to `a`. The range and the repetition of its
@@ -40,6 +42,10 @@ impl Cut {
         ensures cut { IfOk result IsCut }
         ensures fits { IfOk result (FitsCut n) }
         ensures fault { IfErr result (IsObjectFault n (a ∷ b ∷ c ∷ [])) }
+
+        // Each fault is answered, and a cut that fits is taken.
+        ensures exact { (e : CutFault) → IsObjectFault n (a ∷ b ∷ c ∷ []) e → result ≡ Err e }
+        ensures accepts { IsCut (CutKind.Dicycle (a ∷ b ∷ c ∷ [])) → FitsCut n (CutKind.Dicycle (a ∷ b ∷ c ∷ [])) → IsOk result }
     {
         check_objects(&[a, b, c], n)?;
         Ok(Cut {
@@ -54,6 +60,10 @@ impl Cut {
         ensures cut { IfOk result IsCut }
         ensures fits { IfOk result (FitsCut n) }
         ensures fault { IfErr result (IsFenceFault n u.now w.now) }
+
+        // Each fault is answered, and a cut that fits is taken.
+        ensures exact { (e : CutFault) → IsFenceFault n u.now w.now e → result ≡ Err e }
+        ensures accepts { IsCut (fence_of u.now w.now) → FitsCut n (fence_of u.now w.now) → IsOk result }
     {
         if u.len() != w.len() || u.len() < 3 || u.len() > 8 {
             return Err(CutFault::CountRange);
@@ -74,6 +84,10 @@ impl Cut {
         ensures cut { IfOk result IsCut }
         ensures fits { IfOk result (FitsCut n) }
         ensures fault { IfErr result (IsLadderFault n (map objects_of cycles.now)) }
+
+        // Each fault is answered, and a cut that fits is taken.
+        ensures exact { (e : CutFault) → IsLadderFault n (map objects_of cycles.now) e → result ≡ Err e }
+        ensures accepts { IsCut (ladder_of cycles.now) → FitsCut n (ladder_of cycles.now) → IsOk result }
     {
         if cycles.len() < 3 || cycles.len() > 9 {
             return Err(CutFault::CountRange);
@@ -156,6 +170,66 @@ impl Cut {
                 (ladder_arcs(cycles).len() - (cycles.len() + 1) / 2) as u32
             }
         }
+    }
+}
+
+/// Equal cuts are the same: those of the same kind with the same objects in the same places.
+impl PartialEq for Cut {
+    ghost use Rattle.std.specs.Prelude.{◌≡◌, ◌↔◌, IsTrue};
+    ghost use Rattle.lop_cuts.specs.contracts.kind.CutKindPartialEq.TheImpl.{ghosts as of_kind};
+    ghost use Rattle.lop_cuts.specs.contracts.kind.CutKindPartialEq.TheImpl.Laws.{laws-law};
+
+    ghost eq = { of_kind.eq };
+
+    ghost laws = { laws-law };
+
+    fn eq(&self, other: &Cut) -> bool
+        ensures kind { result ≡ of_kind.eq self.now other.now }
+        ensures same { IsTrue result ↔ (self.now ≡ other.now) }
+    {
+        self.kind == other.kind
+    }
+}
+
+impl Eq for Cut {
+    ghost use Rattle.lop_cuts.specs.contracts.kind.CutKindEq.TheImpl.Laws.{laws-law};
+
+    ghost laws = { laws-law };
+}
+
+/// The order of the kinds.
+impl PartialOrd for Cut {
+    ghost use Rattle.lop_cuts.specs.contracts.kind.CutKindPartialOrd.TheImpl.{ghosts as of_kind};
+    ghost use Rattle.lop_cuts.specs.contracts.kind.CutKindPartialOrd.TheImpl.Laws.{laws-law};
+
+    ghost partial_cmp = { of_kind.partial_cmp };
+
+    ghost laws = { laws-law };
+
+    fn partial_cmp(&self, other: &Cut) -> Option<Ordering> {
+        self.kind.partial_cmp(&other.kind)
+    }
+}
+
+/// The order of the kinds. Cuts are tied where they are the same.
+impl Ord for Cut {
+    ghost use Rattle.std.specs.Prelude.{◌≡◌, ◌↔◌};
+    ghost use Rattle.lop_cuts.specs.contracts.kind.CutKindOrd.TheImpl.{ghosts as of_kind};
+    ghost use Rattle.lop_cuts.specs.contracts.kind.CutKindOrd.TheImpl.Laws.{total-law, matches_partial_cmp-law, matches_eq-law};
+
+    ghost cmp = { of_kind.cmp };
+
+    ghost total = { total-law };
+
+    ghost matches_partial_cmp = { matches_partial_cmp-law };
+
+    ghost matches_eq = { matches_eq-law };
+
+    fn cmp(&self, other: &Cut) -> Ordering
+        ensures kind { result ≡ of_kind.cmp self.now other.now }
+        ensures tie { (result ≡ Ordering.Equal) ↔ (self.now ≡ other.now) }
+    {
+        self.kind.cmp(&other.kind)
     }
 }
 

@@ -1,7 +1,8 @@
 -- Lists of arcs: what they have, how often, and each once.
 use Rattle.std.proofs.Common.{◌≡◌, ◌+◌, ◌*◌, ◌≤◌, ℕ, Bool, true, false, not, cond, ◌||◌, eqb, List, [], ◌∷◌, count_by, refl, sym, ap, ◌∙◌, subst, inl, inr, arith}
-use Rattle.std.specs.List.{filter}
+use Rattle.std.specs.List.{filter, IsDistinct, AllByRecursion}
 use Rattle.std.proofs.lemmas.Bool.{both_ways, and_parts, and_from, eqb-true, eq-eqb, or_cases, or_left, or_right, not_from_false}
+use Rattle.std.proofs.lemmas.Cmp.{nat_eq_equiv}
 use Rattle.std.proofs.lemmas.List.Sums.{sum_by-cons}
 use Rattle.lop_model.specs.declared.pair.Pair.{Pair}
 use Rattle.lop_model.specs.Fixings.{has_pair}
@@ -129,3 +130,26 @@ has_arc-distinct_arcs (x ∷ xs) a h = split (has_arc-distinct_arcs xs a) (same_
           | inl same ↦ or_left (same_arc x a) (has_arc later a) same
           | inr more ↦ or_right (same_arc x a) (has_arc later a) (has_arc-filter (λ b. not (same_arc x b)) (distinct_arcs xs) a (not_from_false (same_arc x a) e) (rest more))
         ]
+
+-- the same test with its arguments the other way round
+same_arc_flip : (a b : Pair) → same_arc a b ≡ same_arc b a
+same_arc_flip a b = rw (nat_eq_equiv.symm a.before b.before, nat_eq_equiv.symm a.after b.after)
+
+times_other : (d : Pair) (arcs : List Pair) → AllByRecursion (λ b. same_arc d b ≡ false) arcs → times d arcs ≡ 0
+times_other d [] h = refl
+times_other d (a ∷ arcs) h =
+    let own : one_if (same_arc a d) ≡ 0 = ap one_if (same_arc_flip a d ∙ h.0) in
+    omega (arith, times-cons d a arcs, own, times_other d arcs h.1)
+
+-- an arc stands among distinct ones once or not at all
+pub times-distinct : (d : Pair) (arcs : List Pair) → IsDistinct same_arc arcs → times d arcs ≡ one_if (has_arc arcs d)
+unfolding IsDistinct
+times-distinct d [] h = refl
+times-distinct d (a ∷ arcs) h = times-cons d a arcs ∙ split (times-distinct d arcs h.1) (same_arc a d) refl
+  where
+    split : times d arcs ≡ one_if (has_arc arcs d) → (b : Bool) → same_arc a d ≡ b → one_if b + times d arcs ≡ one_if (b || has_arc arcs d)
+    split rest true e =
+        let P : Pair → Type 0 = λ x. times x arcs ≡ 0 in
+        let none : times d arcs ≡ 0 = subst P (same_arc-true a d e) (times_other a arcs h.0) in
+        omega (arith, none)
+    split rest false e = omega (arith, rest)

@@ -1,5 +1,5 @@
 -- The Lagrangian value bounds every order that extends the closed pairs.
-use Rattle.std.proofs.Common.{◌≡◌, ℕ, zero, suc, ◌+◌, ◌*◌, ◌<◌, ◌≤◌, Bool, true, false, cond, eqb, ltb, ◌&&◌, ◌||◌, List, [], ◌∷◌, get_or, ℤ, pos, ◌+ℤ◌, ◌-ℤ◌, ◌*ℤ◌, ◌≤ℤ◌, ◌<ℤ◌, refl, sym, ◌∙◌, ap, inl, inr, arith, rules}
+use Rattle.std.proofs.Common.{◌≡◌, ℕ, zero, suc, ◌+◌, ◌*◌, ◌<◌, ◌≤◌, Bool, true, false, cond, eqb, ltb, ◌&&◌, ◌||◌, List, [], ◌∷◌, length, take, get_or, ℤ, pos, ◌+ℤ◌, ◌-ℤ◌, ◌*ℤ◌, ◌≤ℤ◌, ◌<ℤ◌, refl, sym, ◌∙◌, ap, inl, inr, arith, rules}
 use Rattle.std.specs.Prelude.{IsTrue}
 use Rattle.std.specs.List.{All}
 use Rattle.std.specs.Int.{int_max}
@@ -7,7 +7,7 @@ use Rattle.std.proofs.Math.IntN.{suc_ℤ-*ℤ, zero-*ℤ, pos-*ℤ-pos}
 use Rattle.std.proofs.lemmas.Int.{ints, clamps, by_lt_z}
 use Rattle.std.proofs.lemmas.Bool.{cases_lt}
 use Rattle.std.proofs.lemmas.Bool.Decides.{nat_tests}
-use Rattle.std.proofs.lemmas.List.Sums.{sum_by-cons}
+use Rattle.std.proofs.lemmas.List.Sums.{sum_by-cons, sum_by_more}
 use Rattle.lop_model.specs.declared.pair.Pair.{Pair}
 use Rattle.lop_model.specs.Sums.{pair_sum}
 use Rattle.lop_model.specs.Order.{IsOrder, place_of, stands_before}
@@ -17,10 +17,12 @@ use Rattle.lop_model.specs.Bound.{pair_value, pair_bound}
 use Rattle.lop_model.proofs.SumLemmas.{pair_sum-same, pair_sum-add, pair_sum-scale, pair_sum-le, pair_sum-none, pair_sum-one}
 use Rattle.lop_model.proofs.OrderLemmas.{place_of-at, pair_sum-order}
 use Rattle.lop_model.proofs.BoundLemmas.{choice-le-value}
-use Rattle.lop_cuts.specs.Arcs.{kept_count}
+use Rattle.lop_cuts.specs.Arcs.{arc, kept_count}
 use Rattle.lop_cuts.specs.Kind.{IsCut, IsValidCut, arcs_of, right_side_of}
 use Rattle.lop_cuts.specs.Lagrangian.{Term, charge, right_sides, reduced_entry, lagrangian_value, Certifies}
 use Rattle.lop_cuts.proofs.CycleLemmas.{one_if, kept_count-cons}
+use Rattle.lop_cuts.proofs.ArcLemmas.{times, times-distinct}
+use Rattle.lop_cuts.proofs.DistinctLemmas.{arcs_distinct}
 use Rattle.lop_cuts.proofs.KindLemmas.{IsValidCut-IsCut}
 
 add-le : {a b c d : ℤ} → a ≤ℤ b → c ≤ℤ d → (a +ℤ c) ≤ℤ (b +ℤ d)
@@ -95,6 +97,14 @@ one_charge t ts a b =
     ap pos (sum_by-cons (λ u. cond (has_pair (arcs_of u.cut) a b) u.multiplier 0) t ts)
     ∙ ap (λ k. pos (k + charge ts a b)) (times_one (has_pair (arcs_of t.cut) a b) t.multiplier)
     ∙ ap (λ x. x +ℤ pos (charge ts a b)) (sym (pos-*ℤ-pos t.multiplier (one_if (has_pair (arcs_of t.cut) a b))))
+
+-- the charge of one more term, counted over the list of its cut's arcs
+pub charge_more : (terms : List Term) (i : ℕ) (d : Term) (a b : ℕ) → i < length terms → IsCut (get_or terms i d).cut → charge (take (i + 1) terms) a b ≡ charge (take i terms) a b + (get_or terms i d).multiplier * times (arc a b) (arcs_of (get_or terms i d).cut)
+charge_more terms i d a b l right =
+    let t = get_or terms i d in
+    sum_by_more (λ u. cond (has_pair (arcs_of u.cut) a b) u.multiplier 0) terms i d l
+    ∙ ap (λ k. charge (take i terms) a b + k) (times_one (has_pair (arcs_of t.cut) a b) t.multiplier
+    ∙ ap (λ k. t.multiplier * k) (sym (times-distinct (arc a b) (arcs_of t.cut) (arcs_distinct t.cut right))))
 
 -- an order is charged at most the multiplied right sides of valid cuts
 pub charge-le-right_sides : (n : ℕ) (s : List ℕ) (terms : List Term) → IsOrder n s → All (λ t. IsValidCut n t.cut) terms → pair_sum n (λ p q. pos (charge terms (get_or s p 0) (get_or s q 0))) ≤ℤ pos (right_sides terms)

@@ -1,6 +1,6 @@
 -- Lists of arcs as the code builds them, one after another.
-use Rattle.std.proofs.Common.{◌≡◌, ◌+◌, ◌-◌, ◌*◌, ◌<◌, ◌≤◌, ℕ, zero, suc, Bool, true, false, cond, not, ◌||◌, List, [], ◌∷◌, ◌++◌, length, take, drop, map, get_or, ltb, zero-add, length-append, length-drop, append_assoc, add-one, refl, sym, ap, ◌∙◌, subst, arith}
-use Rattle.std.specs.List.{flat_map, zip, filter}
+use Rattle.std.proofs.Common.{◌≡◌, ◌+◌, ◌-◌, ◌*◌, ◌<◌, ◌≤◌, ◌⊎◌, ℕ, zero, suc, Bool, true, false, cond, not, ◌||◌, List, [], ◌∷◌, ◌++◌, length, take, drop, map, get_or, ltb, zero-add, length-append, length-drop, append_assoc, add-one, refl, sym, ap, ◌∙◌, subst, inl, inr, arith}
+use Rattle.std.specs.List.{flat_map, zip, filter, AllByRecursion}
 use Rattle.std.proofs.lemmas.Bool.{both_ways, lt-ltb, not_from_true, not_from_false}
 use Rattle.std.proofs.lemmas.Map.Views.{any-filter_same}
 use Rattle.std.proofs.lemmas.List.Elements.{filter-append}
@@ -11,7 +11,7 @@ use Rattle.std.proofs.Math.Nat.{mul-le-mul_left}
 use Rattle.std.proofs.lemmas.List.Concat.{flat_map-append}
 use Rattle.std.proofs.lemmas.Slice.Zip.{length-zip, get_or-zip}
 use Rattle.lop_model.specs.declared.pair.Pair.{Pair}
-use Rattle.lop_cuts.specs.Arcs.{arc, same_arc, arcs_back_to, cycle_arcs, arcs_across, post_arcs, distinct_arcs, ladder_arcs, cycles_with}
+use Rattle.lop_cuts.specs.Arcs.{arc, same_arc, arcs_back_to, cycle_arcs, arcs_across, post_arcs, distinct_arcs, ladder_arcs, cycles_with, IsCycle}
 use Rattle.lop_cuts.proofs.CycleLemmas.{one_if}
 use Rattle.lop_cuts.proofs.FenceLemmas.{length-post_arcs}
 use Rattle.lop_cuts.proofs.ArcLemmas.{has_arc, same_arc-true, same_arc-refl}
@@ -118,6 +118,20 @@ length-distinct_arcs (x ∷ xs) =
     let is_other : Pair → Bool = λ b. not (same_arc x b) in
     omega (arith, length-distinct_arcs xs, length-filter is_other (distinct_arcs xs), count_by-le-length is_other (distinct_arcs xs))
 
+length-cycles_le : (cycles : List (List ℕ)) → AllByRecursion IsCycle cycles → length (flat_map cycle_arcs cycles) ≤ 4 * length cycles
+length-cycles_le [] h = omega arith
+length-cycles_le (c ∷ cs) h =
+    omega (arith, length-append (cycle_arcs c) (flat_map cycle_arcs cs), four c h.0.size, length-cycle_arcs c, length-cycles_le cs h.1)
+  where
+    four : (xs : List ℕ) → (length xs ≡ 3) ⊎ (length xs ≡ 4) → length xs ≤ 4
+    four xs (inl e) = omega arith
+    four xs (inr e) = omega arith
+
+-- a ladder has at most four arcs for each of its cycles
+pub length-ladder_arcs_le : (cycles : List (List ℕ)) → AllByRecursion IsCycle cycles → length (ladder_arcs cycles) ≤ 4 * length cycles
+length-ladder_arcs_le cycles h =
+    omega (arith, length-distinct_arcs (flat_map cycle_arcs cycles), length-cycles_le cycles h)
+
 -- the front of a cycle's arcs with the next one
 pub cycle_arcs_more : (xs : List ℕ) (i after : ℕ) → i < length xs → ((d : Pair) → get_or (cycle_arcs xs) i d ≡ arc (get_or xs i 0) after) → take (i + 1) (cycle_arcs xs) ≡ take i (cycle_arcs xs) ++ arc (get_or xs i 0) after ∷ []
 cycle_arcs_more xs i after l next =
@@ -179,6 +193,10 @@ pub moved_post : (old across rest all : List Pair) (a : Pair) → old ++ (a ∷ 
 moved_post old across rest all a e =
     append_assoc (old ++ a ∷ []) across rest ∙ append_assoc old (a ∷ []) (across ++ rest) ∙ e
 
+-- a number of at most 8 has a square of at most 64
+pub square_le : (m : ℕ) → m ≤ 8 → m * m ≤ 64
+square_le m h = omega (arith, mul-le-mul_left m h, mul-le-mul_left 8 h)
+
 -- there is room for a post's arcs beside those of the posts before
 pub post_room : (old : List Pair) (us ws : List ℕ) (i : ℕ) → i < length us → length us ≡ length ws → length us ≤ 8 → old ++ post_arcs (drop i (zip us ws)) ≡ post_arcs (zip us ws) → length old + 1 + 2 * (length us - i - 1) ≤ 64
 post_room old us ws i l same most e =
@@ -190,6 +208,3 @@ post_room old us ws i l same most e =
     let later : length (post_arcs (drop i (zip us ws))) ≡ (left + 1) * (left + 1) = length-post_arcs (drop i (zip us ws)) ∙ ap (λ m. m * m) rest in
     let square : k * k ≤ 64 = omega (arith, square_le k most) in
     omega (arith, length-append old (post_arcs (drop i (zip us ws))), ap length e, all, later, square)
-  where
-    square_le : (m : ℕ) → m ≤ 8 → m * m ≤ 64
-    square_le m h = omega (arith, mul-le-mul_left m h, mul-le-mul_left 8 h)

@@ -1,5 +1,5 @@
 -- The right side of a cut holds for every order.
-use Rattle.std.proofs.Common.{◌≡◌, ◌+◌, ◌-◌, ◌*◌, ◌/◌, ◌≤◌, ℕ, Bool, List, [], ◌∷◌, length, map, sym, subst, arith}
+use Rattle.std.proofs.Common.{◌≡◌, ◌+◌, ◌-◌, ◌*◌, ◌/◌, ◌≤◌, ℕ, List, [], ◌∷◌, length, map, subst, arith}
 use Rattle.std.specs.List.{zip}
 use Rattle.std.proofs.lemmas.List.{length-map}
 use Rattle.std.proofs.lemmas.List.Elements.{recursion_from_All}
@@ -12,7 +12,7 @@ use Rattle.lop_cuts.specs.Kind.{IsCut, IsLadder, IsValidCut, arcs_of, right_side
 use Rattle.lop_cuts.proofs.CycleLemmas.{cycle_loses_arc}
 use Rattle.lop_cuts.proofs.FenceLemmas.{fence_kept}
 use Rattle.lop_cuts.proofs.LadderLemmas.{ladder_kept, ladder_long}
-use Rattle.lop_cuts.proofs.ArcListLemmas.{length-cycle_arcs}
+use Rattle.lop_cuts.proofs.ArcListLemmas.{length-cycle_arcs, length-ladder_arcs_le, square_le}
 
 -- any list of objects, an order or not, keeps at most the right side of a cut's arcs
 pub kept_count-le-right_side : (s : List ℕ) (cut : CutKind) → IsCut cut → kept_count s (arcs_of cut) ≤ right_side_of cut
@@ -39,3 +39,12 @@ ladder_long_at cycles right =
     let lists = map objects_of cycles in
     let long = ladder_long lists (recursion_from_All IsCycle lists right.each) right.twice in
     omega (arith, long, length-map cycles objects_of)
+
+-- a right side is at most 64
+pub right_side_of-le : (cut : CutKind) → IsCut cut → right_side_of cut ≤ 64
+right_side_of-le (Dicycle objects) right = omega arith
+right_side_of-le (Fence u w) right =
+    omega (arith, square_le (length u.items) right.at_most, right.at_least, right.at_most)
+right_side_of-le (Ladder cycles) right =
+    let lists = map objects_of cycles.items in
+    omega (arith, length-ladder_arcs_le lists (recursion_from_All IsCycle lists right.each), right.at_most)

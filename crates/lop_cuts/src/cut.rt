@@ -156,6 +156,7 @@ impl Cut {
     /// How many of its arcs an order keeps at most. It takes O(1), for a ladder O(arcs²).
     pub fn right_side(&self) -> u32
         ensures value { result ≡ right_side_of self.now }
+        ensures at_most { result ≤ 64 }
 
         // No order of any number of objects keeps more of the arcs.
         ensures valid { (n : ℕ) → IsValidCut n self.now }

@@ -1,4 +1,4 @@
-ghost use Rattle.std.specs.Prelude.{◌≡◌, ◌⊎◌, length};
+ghost use Rattle.std.specs.Prelude.{◌≡◌, ◌⊎◌, [], ◌∷◌, length};
 ghost use Rattle.lop_cuts.specs.Kind.{objects_of};
 
 use arrayvec::ArrayVec;
@@ -26,6 +26,10 @@ impl Cycle {
 
 /// Fills the unused places of a list of cycles: an array list asks for a value to fill them with.
 impl Default for Cycle {
+    ghost use Rattle.lop_cuts.specs.declared.kind.Cycle.TheVariants.{Three};
+
+    ghost is_default = { λ cycle. cycle ≡ Three (0 ∷ 0 ∷ 0 ∷ []) };
+
     fn default() -> Self {
         Cycle::Three([0; 3])
     }

@@ -1,6 +1,5 @@
-use Rattle.std.proofs.Common.{◌≡◌, sym, ◌∙◌, ap, take, arith}
+use Rattle.std.proofs.Common.{sym, ◌∙◌, arith}
 use Rattle.std.proofs.lemmas.Bool.{false≢true}
-use Rattle.std.proofs.lemmas.List.{take_all}
 use Rattle.lop_cuts.proofs.ObjectLemmas.{IsDistinct-none, IsDistinct_more}
 use Rattle.lop_cuts.proofs.FaultLemmas.{repeated_by_test}
 use Rattle.lop_cuts.proofs.objects.are_distinct.Goals as goal

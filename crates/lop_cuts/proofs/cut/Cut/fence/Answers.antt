@@ -1,4 +1,4 @@
-use Rattle.std.proofs.Common.{ℕ, List, Err, ◌++◌, ◌∙◌, ap, subst, arith}
+use Rattle.std.proofs.Common.{ℕ, List, Err, ◌∙◌, ap, subst, arith}
 use Rattle.std.proofs.lemmas.Result.{err_from_is_err_and}
 use Rattle.lop_cuts.specs.Kind.{IsFence}
 use Rattle.lop_cuts.specs.Fault.{AreObjects, IsFenceCount, IsObjectFault}

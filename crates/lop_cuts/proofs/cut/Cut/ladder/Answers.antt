@@ -1,5 +1,4 @@
-use Rattle.std.proofs.Common.{Err, map, ap, arith}
-use Rattle.std.proofs.lemmas.List.{length-map}
+use Rattle.std.proofs.Common.{Err, map, ap}
 use Rattle.std.proofs.lemmas.Result.{err_from_is_err_and}
 use Rattle.lop_cuts.specs.Kind.{objects_of}
 use Rattle.lop_cuts.proofs.FaultLemmas.{IsLadder-from_checks, IsLadderCount-from_checks, all_below-from_cycles}

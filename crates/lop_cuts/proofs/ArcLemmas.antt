@@ -9,6 +9,7 @@ use Rattle.lop_model.specs.Fixings.{has_pair}
 use Rattle.lop_cuts.specs.Arcs.{arc, same_arc, distinct_arcs}
 use Rattle.lop_cuts.proofs.CycleLemmas.{one_if}
 
+-- the test of two arcs means that they are equal
 pub same_arc-true : (a b : Pair) → same_arc a b ≡ true → a ≡ b
 same_arc-true a b h =
     let parts = and_parts (eqb a.before b.before) (eqb a.after b.after) h in
@@ -17,9 +18,11 @@ same_arc-true a b h =
     let both : arc a.before a.after ≡ arc b.before b.after = cc in
     both
 
+-- an arc is the same as itself
 pub same_arc-refl : (a : Pair) → same_arc a a ≡ true
 same_arc-refl a = and_from _ _ (eq-eqb a.before a.before refl) (eq-eqb a.after a.after refl)
 
+-- the test goes both ways
 pub same_arc-sym : (a b : Pair) → same_arc a b ≡ true → same_arc b a ≡ true
 same_arc-sym a b h =
     let e = same_arc-true a b h in
@@ -34,28 +37,31 @@ has_arc arcs a = has_pair arcs a.before a.after
 abbrev pub times : Pair → List Pair → ℕ
 times a arcs = count_by (λ x. same_arc x a) arcs
 
+-- how often an arc stands in a list with one more in front
 pub times-cons : (a b : Pair) (arcs : List Pair) → times a (b ∷ arcs) ≡ one_if (same_arc b a) + times a arcs
 times-cons a b arcs = sum_by-cons (λ x. one_if (same_arc x a)) b arcs
 
 module _ (test : Pair → Bool) where
   -- how often the arcs of `all` that pass stand in a list
-  abbrev charge : List Pair → List Pair → ℕ
-  charge all [] = 0
-  charge all (d ∷ ds) = cond (test d) (times d all) 0 + charge all ds
+  abbrev tally : List Pair → List Pair → ℕ
+  tally all [] = 0
+  tally all (d ∷ ds) = cond (test d) (times d all) 0 + tally all ds
 
   -- how often the arcs that pass are this one
   abbrev hits : Pair → List Pair → ℕ
   hits x [] = 0
   hits x (d ∷ ds) = cond (test d) (one_if (same_arc x d)) 0 + hits x ds
 
-  charge-cons : (x : Pair) (all ds : List Pair) → charge (x ∷ all) ds ≡ hits x ds + charge all ds
-  charge-cons x all [] = refl
-  charge-cons x all (d ∷ ds) = split (charge-cons x all ds) (test d)
+  -- one more arc of `all` adds its hits
+  tally-cons : (x : Pair) (all ds : List Pair) → tally (x ∷ all) ds ≡ hits x ds + tally all ds
+  tally-cons x all [] = refl
+  tally-cons x all (d ∷ ds) = split (tally-cons x all ds) (test d)
     where
-      split : charge (x ∷ all) ds ≡ hits x ds + charge all ds → (t : Bool) → cond t (times d (x ∷ all)) 0 + charge (x ∷ all) ds ≡ (cond t (one_if (same_arc x d)) 0 + hits x ds) + (cond t (times d all) 0 + charge all ds)
+      split : tally (x ∷ all) ds ≡ hits x ds + tally all ds → (t : Bool) → cond t (times d (x ∷ all)) 0 + tally (x ∷ all) ds ≡ (cond t (one_if (same_arc x d)) 0 + hits x ds) + (cond t (times d all) 0 + tally all ds)
       split rest true = omega (arith, times-cons d x all, rest)
       split rest false = omega (arith, rest)
 
+  -- an arc that passes and that ds has is hit at least once
   hits_one : (x : Pair) (ds : List Pair) → has_arc ds x ≡ true → one_if (test x) ≤ hits x ds
   hits_one x [] h = absurd (both_ways false refl h)
   hits_one x (d ∷ ds) h =
@@ -72,20 +78,21 @@ module _ (test : Pair → Bool) where
       here true false e = absurd (both_ways false refl e)
       here false s e = omega arith
 
-  -- each arc of `all` that passes is charged to one of ds
-  count_by-le-charge : (all ds : List Pair) → ((x : Pair) → has_arc all x ≡ true → has_arc ds x ≡ true) → count_by test all ≤ charge all ds
-  count_by-le-charge [] ds h = omega arith
-  count_by-le-charge (x ∷ all) ds h =
+  -- each arc of `all` that passes is counted at one of ds
+  count_by-le-tally : (all ds : List Pair) → ((x : Pair) → has_arc all x ≡ true → has_arc ds x ≡ true) → count_by test all ≤ tally all ds
+  count_by-le-tally [] ds h = omega arith
+  count_by-le-tally (x ∷ all) ds h =
       let here = hits_one x ds (h x (or_left (same_arc x x) (has_arc all x) (same_arc-refl x))) in
-      let rest = count_by-le-charge all ds (λ y in'. h y (or_right (same_arc x y) (has_arc all y) in')) in
+      let rest = count_by-le-tally all ds (λ y in'. h y (or_right (same_arc x y) (has_arc all y) in')) in
       let counted : count_by test (x ∷ all) ≡ one_if (test x) + count_by test all = sum_by-cons (λ y. one_if (test y)) x all in
-      omega (arith, here, rest, counted, charge-cons x all ds)
+      omega (arith, here, rest, counted, tally-cons x all ds)
 
-  charge-le : (all ds : List Pair) → ((d : Pair) → times d all ≤ 2) → charge all ds ≤ 2 * count_by test ds
-  charge-le all [] h = omega arith
-  charge-le all (d ∷ ds) h = split (charge-le all ds h) (test d) refl
+  -- where each arc stands at most twice in `all`, the tally is at most twice the arcs of ds that pass
+  tally-le : (all ds : List Pair) → ((d : Pair) → times d all ≤ 2) → tally all ds ≤ 2 * count_by test ds
+  tally-le all [] h = omega arith
+  tally-le all (d ∷ ds) h = split (tally-le all ds h) (test d) refl
     where
-      split : charge all ds ≤ 2 * count_by test ds → (t : Bool) → test d ≡ t → cond t (times d all) 0 + charge all ds ≤ 2 * count_by test (d ∷ ds)
+      split : tally all ds ≤ 2 * count_by test ds → (t : Bool) → test d ≡ t → cond t (times d all) 0 + tally all ds ≤ 2 * count_by test (d ∷ ds)
       split rest true e =
           let counted : count_by test (d ∷ ds) ≡ one_if (test d) + count_by test ds = sum_by-cons (λ y. one_if (test y)) d ds in
           let own : one_if (test d) ≡ 1 = ap one_if e in
@@ -96,7 +103,7 @@ module _ (test : Pair → Bool) where
 
   -- where each arc stands at most twice, and ds has each, ds has at least half as many that pass
   pub count_by-le-twice : (all ds : List Pair) → ((x : Pair) → has_arc all x ≡ true → has_arc ds x ≡ true) → ((d : Pair) → times d all ≤ 2) → count_by test all ≤ 2 * count_by test ds
-  count_by-le-twice all ds h t = omega (arith, count_by-le-charge all ds h, charge-le all ds t)
+  count_by-le-twice all ds h t = omega (arith, count_by-le-tally all ds h, tally-le all ds t)
 
 -- a filter keeps an arc that passes
 pub has_arc-filter : (test : Pair → Bool) (xs : List Pair) (a : Pair) → test a ≡ true → has_arc xs a ≡ true → has_arc (filter test xs) a ≡ true
@@ -135,6 +142,7 @@ has_arc-distinct_arcs (x ∷ xs) a h = split (has_arc-distinct_arcs xs a) (same_
 same_arc_flip : (a b : Pair) → same_arc a b ≡ same_arc b a
 same_arc_flip a b = rw (nat_eq_equiv.symm a.before b.before, nat_eq_equiv.symm a.after b.after)
 
+-- an arc that is the same as none of a list stands nowhere in it
 times_other : (d : Pair) (arcs : List Pair) → AllByRecursion (λ b. same_arc d b ≡ false) arcs → times d arcs ≡ 0
 times_other d [] h = refl
 times_other d (a ∷ arcs) h =

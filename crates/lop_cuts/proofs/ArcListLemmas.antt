@@ -16,6 +16,7 @@ use Rattle.lop_cuts.proofs.CycleLemmas.{one_if}
 use Rattle.lop_cuts.proofs.FenceLemmas.{length-post_arcs}
 use Rattle.lop_cuts.proofs.ArcLemmas.{has_arc, same_arc-true, same_arc-refl}
 
+-- a path has an arc from each of its objects
 length-arcs_back_to : (first x : ℕ) (xs : List ℕ) → length (arcs_back_to first x xs) ≡ length xs + 1
 length-arcs_back_to first x [] = refl
 length-arcs_back_to first x (y ∷ ys) = omega (arith, length-arcs_back_to first y ys)
@@ -25,11 +26,13 @@ pub length-cycle_arcs : (xs : List ℕ) → length (cycle_arcs xs) ≡ length xs
 length-cycle_arcs [] = refl
 length-cycle_arcs (x ∷ xs) = omega (arith, length-arcs_back_to x x xs)
 
+-- a path's arc at a place that isn't the last goes to the next object
 back_to_inner : (first x : ℕ) (xs : List ℕ) (i : ℕ) (d : Pair) → i < length xs → get_or (arcs_back_to first x xs) i d ≡ arc (get_or (x ∷ xs) i 0) (get_or xs i 0)
 back_to_inner first x [] i d l = absurd (omega arith)
 back_to_inner first x (y ∷ ys) zero d l = refl
 back_to_inner first x (y ∷ ys) (suc i) d l = back_to_inner first y ys i d (omega arith)
 
+-- a path's last arc goes to the first object of the cycle
 back_to_last : (first x : ℕ) (xs : List ℕ) (d : Pair) → get_or (arcs_back_to first x xs) (length xs) d ≡ arc (get_or (x ∷ xs) (length xs) 0) first
 back_to_last first x [] d = refl
 back_to_last first x (y ∷ ys) d = back_to_last first y ys d
@@ -95,20 +98,21 @@ has_arc-distinct (x ∷ xs) a = split (same_arc x a) refl (has_arc-distinct xs a
     split false e rest =
         any-filter_same (λ b. same_arc b a) (λ b. not (same_arc x b)) true (λ b. other_than a x b e) (distinct_arcs xs) ∙ rest
 
-some_or : (b : Bool) (k : ℕ) → ltb 0 (one_if b + k) ≡ (b || ltb 0 k)
-some_or true k = lt-ltb _ _ (omega arith)
-some_or false k = ap (ltb 0) (zero-add k)
+-- a count that begins with a test is positive where the test holds or the rest is
+positive_or : (b : Bool) (k : ℕ) → ltb 0 (one_if b + k) ≡ (b || ltb 0 k)
+positive_or true k = lt-ltb _ _ (omega arith)
+positive_or false k = ap (ltb 0) (zero-add k)
 
 -- an arc is one of a ladder's where some cycle has it
 pub has_arc-ladder_arcs : (a : Pair) (cycles : List (List ℕ)) → ltb 0 (cycles_with a cycles) ≡ has_arc (ladder_arcs cycles) a
-has_arc-ladder_arcs a cycles = some cycles ∙ sym (has_arc-distinct (flat_map cycle_arcs cycles) a)
+has_arc-ladder_arcs a cycles = in_one cycles ∙ sym (has_arc-distinct (flat_map cycle_arcs cycles) a)
   where
-    some : (cs : List (List ℕ)) → ltb 0 (cycles_with a cs) ≡ has_arc (flat_map cycle_arcs cs) a
-    some [] = refl
-    some (c ∷ cs) =
+    in_one : (cs : List (List ℕ)) → ltb 0 (cycles_with a cs) ≡ has_arc (flat_map cycle_arcs cs) a
+    in_one [] = refl
+    in_one (c ∷ cs) =
         ap (ltb 0) (sum_by-cons (λ x. one_if (has_arc (cycle_arcs x) a)) c cs)
-        ∙ some_or (has_arc (cycle_arcs c) a) (cycles_with a cs)
-        ∙ ap (λ t. has_arc (cycle_arcs c) a || t) (some cs)
+        ∙ positive_or (has_arc (cycle_arcs c) a) (cycles_with a cs)
+        ∙ ap (λ t. has_arc (cycle_arcs c) a || t) (in_one cs)
         ∙ sym (list_any-append (λ x. same_arc x a) (cycle_arcs c) (flat_map cycle_arcs cs))
 
 -- there are no more distinct arcs than arcs
@@ -118,6 +122,7 @@ length-distinct_arcs (x ∷ xs) =
     let is_other : Pair → Bool = λ b. not (same_arc x b) in
     omega (arith, length-distinct_arcs xs, length-filter is_other (distinct_arcs xs), count_by-le-length is_other (distinct_arcs xs))
 
+-- cycles have at most four arcs each
 length-cycles_le : (cycles : List (List ℕ)) → AllByRecursion IsCycle cycles → length (flat_map cycle_arcs cycles) ≤ 4 * length cycles
 length-cycles_le [] h = omega arith
 length-cycles_le (c ∷ cs) h =
@@ -157,6 +162,7 @@ distinct_arcs_more : (seen more : List Pair) (k : ℕ) (d : Pair) → k < length
 distinct_arcs_more seen more k d l =
     ap (λ xs. distinct_arcs (seen ++ xs)) (take_more more k d l) ∙ ap distinct_arcs (sym (append_assoc seen (take k more) (get_or more k d ∷ [])))
 
+-- the next arc, which isn't among the distinct ones, joins them
 pub distinct_arcs_new : (seen more : List Pair) (k : ℕ) (d : Pair) (arcs : List Pair) → k < length more → arcs ≡ distinct_arcs (seen ++ take k more) → has_arc arcs (get_or more k d) ≡ false → arcs ++ get_or more k d ∷ [] ≡ distinct_arcs (seen ++ take (k + 1) more)
 distinct_arcs_new seen more k d arcs l so_far out =
     let x = get_or more k d in
@@ -164,6 +170,7 @@ distinct_arcs_new seen more k d arcs l so_far out =
     let absent : has_arc before x ≡ false = ap (λ xs. has_arc xs x) (sym so_far) ∙ out in
     ap (λ xs. xs ++ x ∷ []) so_far ∙ sym (distinct_arcs_more seen more k d l ∙ distinct_arcs_push (seen ++ take k more) x ∙ ap (λ b. cond b before (before ++ x ∷ [])) absent)
 
+-- the next arc, which is among the distinct ones, changes nothing
 pub distinct_arcs_old : (seen more : List Pair) (k : ℕ) (d : Pair) (arcs : List Pair) → k < length more → arcs ≡ distinct_arcs (seen ++ take k more) → has_arc arcs (get_or more k d) ≡ true → arcs ≡ distinct_arcs (seen ++ take (k + 1) more)
 distinct_arcs_old seen more k d arcs l so_far in' =
     let x = get_or more k d in
@@ -185,6 +192,7 @@ post_arcs_more us ws i l m =
     let rest = drop (i + 1) (zip us ws) in
     at_drop_more post_arcs (zip us ws) i (0, 0) (omega (arith, length-zip us ws)) ∙ ap (λ q. arc q.0 q.1 ∷ flat_map (arcs_across q) rest ++ post_arcs rest) (get_or-zip us ws i (0, 0) l m)
 
+-- no post is left past the end
 pub post_arcs_all : (us ws : List ℕ) (i : ℕ) → length us ≤ i → post_arcs (drop i (zip us ws)) ≡ []
 post_arcs_all us ws i l = at_drop_all post_arcs (zip us ws) i (omega (arith, length-zip us ws))
 

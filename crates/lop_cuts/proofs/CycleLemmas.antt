@@ -19,19 +19,24 @@ stands_before-transitive s a b c h k =
 abbrev pub one_if : Bool → ℕ
 one_if b = cond b 1 0
 
+-- how many arcs are kept of a list with one more in front
 pub kept_count-cons : (s : List ℕ) (a : Pair) (xs : List Pair) → kept_count s (a ∷ xs) ≡ one_if (stands_before s a.before a.after) + kept_count s xs
 kept_count-cons s a xs = sum_by-cons (λ x. one_if (stands_before s x.before x.after)) a xs
 
+-- how many arcs are kept of two lists
 pub kept_count-append : (s : List ℕ) (xs ys : List Pair) → kept_count s (xs ++ ys) ≡ kept_count s xs + kept_count s ys
 kept_count-append s xs ys = sum_by-append (λ x. one_if (stands_before s x.before x.after)) xs ys
 
+-- no more arcs are kept than there are
 pub kept_count-le : (s : List ℕ) (xs : List Pair) → kept_count s xs ≤ length xs
 kept_count-le s xs = count_by-le-length (λ x. stands_before s x.before x.after) xs
 
+-- it is at most 1
 pub one_if_le : (b : Bool) → one_if b ≤ 1
 one_if_le true = omega arith
 one_if_le false = omega arith
 
+-- it is 1 only where the test holds
 pub one_if_is : (b : Bool) → 1 ≤ one_if b → b ≡ true
 one_if_is true h = refl
 one_if_is false h = absurd (omega arith)

@@ -17,15 +17,18 @@ IsNone q xs = AllByRecursion (λ y. nat_eq q y ≡ false) xs
 abbrev IsOther : List Pair → Pair → Type 0
 IsOther arcs a = AllByRecursion (λ b. same_arc a b ≡ false) arcs
 
+-- two numbers differ both ways round
 flipped : (x y : ℕ) → nat_eq x y ≡ false → nat_eq y x ≡ false
 flipped x y h = nat_eq_equiv.symm y x ∙ h
 
+-- what holds of all of two lists holds of all of each
 All-append_parts : (P : ℕ → Type 0) (xs ys : List ℕ) → AllByRecursion P (xs ++ ys) → AllByRecursion P xs × AllByRecursion P ys
 All-append_parts P [] ys h = (tt, h)
 All-append_parts P (x ∷ xs) ys h =
     let rest = All-append_parts P xs ys h.1 in
     ((h.0, rest.0), rest.1)
 
+-- what holds of all of each of two lists holds of all of both
 All-join : (P : Pair → Type 0) (xs ys : List Pair) → AllByRecursion P xs → AllByRecursion P ys → AllByRecursion P (xs ++ ys)
 All-join P [] ys h k = k
 All-join P (x ∷ xs) ys h k = (h.0, All-join P xs ys h.1 k)
@@ -43,11 +46,13 @@ starts_elsewhere q c first x [] h = (and_left (nat_eq q x) (nat_eq c first) h.0,
 starts_elsewhere q c first x (y ∷ ys) h =
     (and_left (nat_eq q x) (nat_eq c y) h.0, starts_elsewhere q c first y ys h.1)
 
+-- the arcs of a path through different objects are distinct
 path_distinct : (first x : ℕ) (xs : List ℕ) → IsDistinct nat_eq (x ∷ xs) → IsDistinct same_arc (arcs_back_to first x xs)
 unfolding IsDistinct
 path_distinct first x [] h = (tt, tt)
 path_distinct first x (y ∷ ys) h = (starts_elsewhere x y first y ys h.0, path_distinct first y ys h.1)
 
+-- the arcs of a cycle of different objects are distinct
 cycle_distinct : (xs : List ℕ) → IsDistinct nat_eq xs → IsDistinct same_arc (cycle_arcs xs)
 unfolding IsDistinct
 cycle_distinct [] h = tt
@@ -62,6 +67,7 @@ All-filtered P test (x ∷ xs) h = split (test x) (All-filtered P test xs h.1)
     split true rest = (h.0, rest)
     split false rest = rest
 
+-- an arc is none of those that a filter for others keeps
 others_kept : (a : Pair) (xs : List Pair) → IsOther (filter (λ b. not (same_arc a b)) xs) a
 others_kept a [] = tt
 others_kept a (x ∷ xs) = split (same_arc a x) refl (others_kept a xs)
@@ -73,6 +79,7 @@ others_kept a (x ∷ xs) = split (same_arc a x) refl (others_kept a xs)
     split true e h = h
     split false e h = (e, h)
 
+-- a filter leaves distinct arcs distinct
 distinct_filtered : (test : Pair → Bool) (xs : List Pair) → IsDistinct same_arc xs → IsDistinct same_arc (filter test xs)
 unfolding IsDistinct
 distinct_filtered test [] h = tt
@@ -82,6 +89,7 @@ distinct_filtered test (x ∷ xs) h = split (test x) (distinct_filtered test xs 
     split true rest = (All-filtered (λ b. same_arc x b ≡ false) test xs h.0, rest)
     split false rest = rest
 
+-- the distinct arcs of a list are distinct
 distinct_arcs_distinct : (xs : List Pair) → IsDistinct same_arc (distinct_arcs xs)
 unfolding IsDistinct
 distinct_arcs_distinct [] = tt
@@ -102,6 +110,7 @@ ArePosts (p ∷ ps) = (nat_eq p.0 p.1 ≡ false) × IsApart p.0 ps × IsApart p.
 abbrev Misses : ℕ → List Pair → Type 0
 Misses q arcs = AllByRecursion (λ b. (nat_eq q b.before ≡ false) × (nat_eq q b.after ≡ false)) arcs
 
+-- an object between two lists of different objects is none of them
 distinct_middle : (us : List ℕ) (w : ℕ) (ws : List ℕ) → IsDistinct nat_eq (us ++ w ∷ ws) → IsNone w us × IsNone w ws × IsDistinct nat_eq (us ++ ws)
 unfolding IsDistinct
 distinct_middle [] w ws h = (tt, h.0, h.1)
@@ -114,11 +123,13 @@ distinct_middle (u ∷ us) w ws h =
     numbers_join [] ys h k = k
     numbers_join (x ∷ xs) ys h k = (h.0, numbers_join xs ys h.1 k)
 
+-- an object of neither list is none of their posts
 apart_from_lists : (q : ℕ) (us ws : List ℕ) → IsNone q us → IsNone q ws → IsApart q (zip us ws)
 apart_from_lists q [] ws h k = tt
 apart_from_lists q (u ∷ us) [] h k = tt
 apart_from_lists q (u ∷ us) (w ∷ ws) h k = ((h.0, k.0), apart_from_lists q us ws h.1 k.1)
 
+-- the posts of lists of different objects have different objects
 posts_from_lists : (us ws : List ℕ) → IsDistinct nat_eq (us ++ ws) → ArePosts (zip us ws)
 unfolding IsDistinct
 posts_from_lists [] ws h = tt
@@ -128,20 +139,24 @@ posts_from_lists (u ∷ us) (w ∷ ws) h =
     let rest = distinct_middle us w ws h.1 in
     (u_parts.1.0, apart_from_lists u us ws u_parts.0 u_parts.1.1, apart_from_lists w us ws rest.0 rest.1, posts_from_lists us ws rest.2)
 
+-- no arc across a post touches an object of none of the posts
 misses_across : (q : ℕ) (p : ℕ × ℕ) (ps : List (ℕ × ℕ)) → nat_eq q p.0 ≡ false → nat_eq q p.1 ≡ false → IsApart q ps → (arcs : List Pair) → Misses q arcs → Misses q (flat_map (arcs_across p) ps ++ arcs)
 misses_across q p [] a b h arcs rest = rest
 misses_across q p (r ∷ rs) a b h arcs rest =
     ((b, h.0.0), ((h.0.1, a), misses_across q p rs a b h.1 arcs rest))
 
+-- no arc of a fence touches an object of none of its posts
 misses_posts : (q : ℕ) (ps : List (ℕ × ℕ)) → IsApart q ps → Misses q (post_arcs ps)
 misses_posts q [] h = tt
 misses_posts q (p ∷ ps) h =
     ((h.0.0, h.0.1), misses_across q p ps h.0.0 h.0.1 h.1 (post_arcs ps) (misses_posts q ps h.1))
 
+-- an arc from an object that no arc touches is none of them
 other_start : (q c : ℕ) (arcs : List Pair) → Misses q arcs → IsOther arcs (arc q c)
 other_start q c [] h = tt
 other_start q c (a ∷ arcs) h = (and_left (nat_eq q a.before) (nat_eq c a.after) h.0.0, other_start q c arcs h.1)
 
+-- an arc to an object that no arc touches is none of them
 other_end : (c q : ℕ) (arcs : List Pair) → Misses q arcs → IsOther arcs (arc c q)
 other_end c q [] h = tt
 other_end c q (a ∷ arcs) h = (and_right (nat_eq c a.before) (nat_eq q a.after) h.0.1, other_end c q arcs h.1)
@@ -163,6 +178,7 @@ from_apart p r [] w k = tt
 from_apart p r (q ∷ qs) w k =
     (and_left (nat_eq r.1 p.1) (nat_eq p.0 q.0) w, (and_left (nat_eq r.1 q.1) (nat_eq p.0 p.0) k.0.1, from_apart p r qs w k.1))
 
+-- the arcs across a post and others are distinct
 across_distinct : (p : ℕ × ℕ) (ps : List (ℕ × ℕ)) → IsApart p.1 ps → ArePosts ps → IsDistinct same_arc (flat_map (arcs_across p) ps)
 unfolding IsDistinct
 across_distinct p [] h k = tt
@@ -174,6 +190,7 @@ across_other : (p : ℕ × ℕ) (ps : List (ℕ × ℕ)) (arcs : List Pair) → 
 across_other p [] arcs h k = tt
 across_other p (q ∷ qs) arcs h k = (other_start p.1 q.0 arcs k, (other_end q.1 p.0 arcs h, across_other p qs arcs h k))
 
+-- the arcs of a fence are distinct
 posts_distinct : (ps : List (ℕ × ℕ)) → ArePosts ps → IsDistinct same_arc (post_arcs ps)
 unfolding IsDistinct
 posts_distinct [] h = tt

@@ -100,17 +100,18 @@ IsFirstCycleFault-at n cycles i d fault l before here = record {
     moved = rw (take-map objects_of i cycles, get_or-map objects_of cycles i d [] l) here
 
 -- what holds of each arc that a loop has passed holds of all in the end
-pub all_passed : (P : Pair → Type 0) (xs ys : List Pair) (i : ℕ) → xs ≡ ys → length xs ≤ i → All P (take i xs) → All P ys
-all_passed P xs ys i e l h =
+pub All-passed : (P : Pair → Type 0) (xs ys : List Pair) (i : ℕ) → xs ≡ ys → length xs ≤ i → All P (take i xs) → All P ys
+All-passed P xs ys i e l h =
     let Q : List Pair → Type 0 = λ zs. All P zs in
     subst Q (take_all i xs l ∙ e) h
 
 -- what holds of the arc at a place holds of some arc
-pub some_found : (P : Pair → Type 0) (xs ys : List Pair) (i : ℕ) (d : Pair) → xs ≡ ys → i < length xs → P (get_or xs i d) → Any P ys
-some_found P xs ys i d e l h =
+pub Any-at : (P : Pair → Type 0) (xs ys : List Pair) (i : ℕ) (d : Pair) → xs ≡ ys → i < length xs → P (get_or xs i d) → Any P ys
+Any-at P xs ys i d e l h =
     let Q : List Pair → Type 0 = λ zs. Any P zs in
     subst Q e (i, get_or xs i d, l, get_or_default xs i (get_or xs i d) d l, h)
 
+-- what holds of the objects of each cycle holds of those of all
 all_flat : (n : ℕ) (cs : List Cycle) → ((k : ℕ) (d : Cycle) → k < length cs → All (λ x. x < n) (objects_of (get_or cs k d))) → All (λ x. x < n) (flat_map objects_of cs)
 all_flat n [] h = All-nil (λ x. x < n)
 all_flat n (c ∷ cs) h =

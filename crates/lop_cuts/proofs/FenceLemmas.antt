@@ -12,10 +12,12 @@ abbrev triangle : ℕ → ℕ
 triangle zero = 0
 triangle (suc m) = m + triangle m
 
+-- m is at most one more than the number of pairs of m posts
 triangle_near : (m : ℕ) → m ≤ triangle m + 1
 triangle_near zero = omega arith
 triangle_near (suc m) = omega arith
 
+-- each other post adds two arcs across a post
 length-across : (p : ℕ × ℕ) (ps : List (ℕ × ℕ)) → length (flat_map (arcs_across p) ps) ≡ 2 * length ps
 length-across p [] = refl
 length-across p (q ∷ qs) =
@@ -32,6 +34,7 @@ module _ (s : List ℕ) where
   abbrev standing : List (ℕ × ℕ) → ℕ
   standing ps = count_by (λ p. stands_before s p.0 p.1) ps
 
+  -- how many own arcs are kept with one more post
   standing-cons : (p : ℕ × ℕ) (ps : List (ℕ × ℕ)) → standing (p ∷ ps) ≡ one_if (stands_before s p.0 p.1) + standing ps
   standing-cons p ps = sum_by-cons (λ q. one_if (stands_before s q.0 q.1)) p ps
 
@@ -59,6 +62,7 @@ module _ (s : List ℕ) where
   abbrev FenceLoses : List (ℕ × ℕ) → Type 0
   FenceLoses ps = kept_count s (post_arcs ps) + length ps + triangle (standing ps) ≤ length (post_arcs ps) + standing ps
 
+  -- one more post loses what it has to
   add_post : (p : ℕ × ℕ) (ps : List (ℕ × ℕ)) (own : Bool) → stands_before s p.0 p.1 ≡ own → FenceLoses ps → FenceLoses (p ∷ ps)
   add_post p ps true e before_it =
       let across = flat_map (arcs_across p) ps in
@@ -77,6 +81,7 @@ module _ (s : List ℕ) where
       let same_pairs : triangle (standing (p ∷ ps)) ≡ triangle (standing ps) = ap triangle same in
       omega (arith, one, two, own, same, same_pairs, before_it, kept_count-le s across, length-append across (post_arcs ps), length-across p ps)
 
+  -- so does every fence
   fence_loses : (ps : List (ℕ × ℕ)) → FenceLoses ps
   fence_loses [] = omega arith
   fence_loses (p ∷ ps) = add_post p ps (stands_before s p.0 p.1) refl (fence_loses ps)

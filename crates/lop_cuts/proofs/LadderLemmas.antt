@@ -15,9 +15,11 @@ use Rattle.lop_cuts.proofs.ArcLemmas.{has_arc, times, times-cons, count_by-le-tw
 abbrev places : ℕ → List ℕ → ℕ
 places q xs = count_by (λ y. nat_eq y q) xs
 
+-- how often an object stands in a list with one more in front
 places-cons : (q x : ℕ) (xs : List ℕ) → places q (x ∷ xs) ≡ one_if (nat_eq x q) + places q xs
 places-cons q x xs = sum_by-cons (λ y. one_if (nat_eq y q)) x xs
 
+-- an object that differs from all of a list stands nowhere in it
 places_none : (q : ℕ) (xs : List ℕ) → AllByRecursion (λ y. nat_eq q y ≡ false) xs → places q xs ≡ 0
 places_none q [] h = refl
 places_none q (x ∷ xs) h =
@@ -40,6 +42,7 @@ places_once q (x ∷ xs) h = split (places_once q xs h.1) (nat_eq x q) refl
         let own : one_if (nat_eq x q) ≡ 0 = ap one_if e in
         omega (arith, places-cons q x xs, own, rest)
 
+-- two tests hold only where the first does
 one_if_and : (p q : Bool) → one_if (p && q) ≤ one_if p
 one_if_and true q = one_if_le q
 one_if_and false q = omega arith
@@ -51,6 +54,7 @@ times_path d first x [] =
 times_path d first x (y ∷ ys) =
     omega (arith, times-cons d (arc x y) (arcs_back_to first y ys), places-cons d.before x (y ∷ ys), one_if_and (eqb x d.before) (eqb y d.after), times_path d first y ys)
 
+-- an arc that a list doesn't have stands nowhere in it
 times_none : (d : Pair) (arcs : List Pair) → has_arc arcs d ≡ false → times d arcs ≡ 0
 times_none d [] h = refl
 times_none d (a ∷ arcs) h =
@@ -79,9 +83,11 @@ times_cycles d (c ∷ cs) h =
     omega (arith, both, counted, times_cycle d c h.0.distinct, times_cycles d cs h.1)
 
 module _ (s : List ℕ) where
+  -- an arc is lost where it is not kept
   abbrev is_lost : Pair → Bool
   is_lost a = not (stands_before s a.before a.after)
 
+  -- an arc is kept or lost
   lost_count : (arcs : List Pair) → kept_count s arcs + count_by is_lost arcs ≡ length arcs
   lost_count [] = refl
   lost_count (a ∷ arcs) = split (lost_count arcs) (stands_before s a.before a.after)
@@ -101,12 +107,12 @@ module _ (s : List ℕ) where
   cycles_lose (c ∷ cs) h =
       omega (arith, one_lost c h.0, cycles_lose cs h.1, kept_count-append s (cycle_arcs c) (flat_map cycle_arcs cs), length-append (cycle_arcs c) (flat_map cycle_arcs cs))
     where
-      some : (xs : List ℕ) → (length xs ≡ 3) ⊎ (length xs ≡ 4) → 0 < length xs
-      some xs (inl e) = omega arith
-      some xs (inr e) = omega arith
+      not_empty : (xs : List ℕ) → (length xs ≡ 3) ⊎ (length xs ≡ 4) → 0 < length xs
+      not_empty xs (inl e) = omega arith
+      not_empty xs (inr e) = omega arith
 
       one_lost : (xs : List ℕ) → IsCycle xs → kept_count s (cycle_arcs xs) < length (cycle_arcs xs)
-      one_lost [] cycle = absurd (omega (arith, some [] cycle.size))
+      one_lost [] cycle = absurd (omega (arith, not_empty [] cycle.size))
       one_lost (x ∷ xs) cycle = cycle_loses_arc s x xs
 
   -- of the arcs of an odd number k of cycles, none in more than two, an order loses (k+1)/2
@@ -130,13 +136,13 @@ ladder_long cycles each twice =
         let counted : count_by (λ _. true) (a ∷ arcs) ≡ 1 + count_by (λ _. true) arcs = sum_by-cons (λ _. 1) a arcs in
         omega (arith, counted, count_all arcs)
 
-    some : (xs : List ℕ) → (length xs ≡ 3) ⊎ (length xs ≡ 4) → 1 ≤ length (cycle_arcs xs)
-    some [] (inl e) = absurd (omega arith)
-    some [] (inr e) = absurd (omega arith)
-    some (x ∷ []) e = omega arith
-    some (x ∷ y ∷ xs) e = omega arith
+    has_one : (xs : List ℕ) → (length xs ≡ 3) ⊎ (length xs ≡ 4) → 1 ≤ length (cycle_arcs xs)
+    has_one [] (inl e) = absurd (omega arith)
+    has_one [] (inr e) = absurd (omega arith)
+    has_one (x ∷ []) e = omega arith
+    has_one (x ∷ y ∷ xs) e = omega arith
 
     enough : (cycles : List (List ℕ)) → AllByRecursion IsCycle cycles → length cycles ≤ length (flat_map cycle_arcs cycles)
     enough [] h = omega arith
     enough (c ∷ cs) h =
-        omega (arith, length-append (cycle_arcs c) (flat_map cycle_arcs cs), some c h.0.size, enough cs h.1)
+        omega (arith, length-append (cycle_arcs c) (flat_map cycle_arcs cs), has_one c h.0.size, enough cs h.1)

@@ -25,23 +25,29 @@ use Rattle.lop_cuts.proofs.ArcLemmas.{times, times-distinct}
 use Rattle.lop_cuts.proofs.DistinctLemmas.{arcs_distinct}
 use Rattle.lop_cuts.proofs.KindLemmas.{IsValidCut-IsCut}
 
+-- two inequalities added up
 add-le : {a b c d : ℤ} → a ≤ℤ b → c ≤ℤ d → (a +ℤ c) ≤ℤ (b +ℤ d)
 add-le h k = omega (arith, ints)
 
+-- two inequalities in a row
 le-trans : {a b c : ℤ} → a ≤ℤ b → b ≤ℤ c → a ≤ℤ c
 le-trans h k = omega (arith, ints)
 
+-- what is taken away and added again
 less_and_more : (x y : ℤ) → x ≡ y +ℤ (x -ℤ y)
 less_and_more x y = omega (arith, ints)
 
 -- ---- the arcs of a cut at the places of an order
 
+-- an arc is not met where one of its objects isn't
 no_hit : (a x b y : ℕ) → (x ≡ a → y ≡ b → ⊥) → pos (cond (eqb a x && eqb b y) 1 0) ≡ pos 0
 no_hit a x b y h = grind (arith, nat_tests)
 
+-- an arc that is met at places p < q is kept
 hit_within : (b : Bool) (p q : ℕ) → p < q → pos (cond b 1 0) ≤ℤ pos (cond (ltb p q) 1 0)
 hit_within b p q l = grind (arith, ints, nat_tests)
 
+-- nothing is met at most as often as anything
 none_within : (b : Bool) → pos 0 ≤ℤ pos (cond b 1 0)
 none_within true = omega (arith, ints)
 none_within false = omega (arith, ints)
@@ -63,6 +69,7 @@ one_arc n s a b o =
       ]
     ]
 
+-- one of two tests holds at most as often as each
 either_one : (b c : Bool) → pos (one_if (b || c)) ≤ℤ (pos (one_if b) +ℤ pos (one_if c))
 either_one true c = omega (arith, ints)
 either_one false c = omega (arith, ints)
@@ -80,6 +87,7 @@ arcs_met n s (x ∷ xs) o =
 
 -- ---- the charges of all terms
 
+-- an inequality multiplied by m
 pos_scale_le : (m k : ℕ) (x : ℤ) → x ≤ℤ pos k → (pos m *ℤ x) ≤ℤ pos (m * k)
 pos_scale_le zero k x h = rw (zero-*ℤ x) (omega (arith, ints))
 pos_scale_le (suc m) k x h =
@@ -87,6 +95,7 @@ pos_scale_le (suc m) k x h =
     let more : pos (suc m) *ℤ x ≡ pos m *ℤ x +ℤ x = suc_ℤ-*ℤ (pos m) x in
     omega (arith, ints)
 
+-- m where a test holds is m times its 1 or 0
 times_one : (b : Bool) (m : ℕ) → cond b m 0 ≡ m * one_if b
 times_one true m = omega arith
 times_one false m = omega arith
@@ -148,6 +157,7 @@ AreValid-AreCuts n terms h = λ k d l. IsValidCut-IsCut n (get_or terms k d).cut
 
 -- ---- more fixings
 
+-- what two objects give only falls as they are fixed
 value_falls : (f g h k : Bool) (x y : ℤ) → (IsTrue f → IsTrue h) → (IsTrue g → IsTrue k) → (IsTrue h → IsTrue k → ⊥) → cond h x (cond k y (int_max x y)) ≤ℤ cond f x (cond g y (int_max x y))
 value_falls true g true k x y p q r = omega (arith, ints)
 value_falls true g false k x y p q r = absurd (search rules)
@@ -169,6 +179,7 @@ lagrangian_value-more C F G scale terms among no_cycle =
 
 -- ---- the bound that a scale and terms certify
 
+-- an inequality of whole numbers multiplied by m
 pos_scale_mono : (m : ℕ) (x y : ℤ) → x ≤ℤ y → (pos m *ℤ x) ≤ℤ (pos m *ℤ y)
 pos_scale_mono zero x y h = rw (zero-*ℤ x, zero-*ℤ y) (omega (arith, ints))
 pos_scale_mono (suc m) x y h =
@@ -189,14 +200,17 @@ weight-le-certified C G scale terms b s o x valid certified =
 
 -- ---- scale 1, and no cut
 
+-- an entry at scale 1 without a charge is itself
 plain : (x : ℤ) → pos 1 *ℤ x -ℤ pos 0 ≡ x
 plain x =
     let one : pos 1 *ℤ x ≡ pos 0 *ℤ x +ℤ x = suc_ℤ-*ℤ (pos 0) x in
     omega (arith, ints, zero-*ℤ x)
 
+-- equal entries give equal values
 same_value : (f g : Bool) {x y u v : ℤ} → x ≡ u → y ≡ v → cond f x (cond g y (int_max x y)) ≡ cond f u (cond g v (int_max u v))
 same_value f g d e = cc
 
+-- no right side adds nothing
 nothing_more : (x : ℤ) → pos 0 +ℤ x ≡ x
 nothing_more x = omega (arith, ints)
 

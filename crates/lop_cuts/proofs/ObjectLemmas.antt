@@ -7,10 +7,12 @@ use Rattle.std.proofs.lemmas.List.Elements.{All-more, All-nil}
 use Rattle.std.proofs.lemmas.Map.Keys.{IsDistinct-push}
 use Rattle.lop_cuts.specs.Fault.{AreObjects}
 
+-- no objects all differ
 pub IsDistinct-none : IsDistinct nat_eq []
 unfolding IsDistinct
 IsDistinct-none = tt
 
+-- no objects are all right
 pub AreObjects-none : (n : ℕ) → AreObjects n []
 unfolding IsDistinct
 AreObjects-none n = record { in_range = All-nil (λ x. x < n); distinct = tt }

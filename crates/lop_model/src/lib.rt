@@ -8,3 +8,6 @@ mod weights;
 pub use order::{Order, OrderFault};
 pub use pair::Pair;
 pub use weights::{Weights, WeightsFault};
+
+#[cfg(test)]
+mod tests;

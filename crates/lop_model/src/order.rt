@@ -1,4 +1,4 @@
-ghost use Rattle.std.specs.Prelude.{◌≡◌, ℕ, ◌<◌, length, slice_index, IfOk, IfErr};
+ghost use Rattle.std.specs.Prelude.{◌≡◌, ℕ, ◌<◌, length, slice_index, swap, IfOk, IfErr};
 ghost use Rattle.lop_model.specs.Order.{IsOrder};
 ghost use Rattle.std.specs.List.{range_with_len};
 
@@ -20,7 +20,8 @@ pub enum OrderFault {
     Repeated(usize),
 }
 
-/// An order of the objects 0 to n - 1.
+/// A linear order of the objects 0 to n - 1: each stands at one place. A contract sees the list of the objects
+/// from the first place to the last.
 #[derive(Drop)]
 pub struct Order {
     objects: Vec<u16>,
@@ -40,6 +41,7 @@ impl Model for Order {
 impl Order {
     ghost use Rattle.lop_model.specs.OrderFault.{IsFault};
 
+    /// The order that the list spells, where it is one. O(n²), and no memory is taken.
     pub fn of_list(list: Vec<u16>, n: u16) -> Result<Self, OrderFault>
         ensures ok { IfOk result (λ s. IsOrder n list.items × (s ≡ list.items)) }
         ensures fault { IfErr result (IsFault n list.items) }
@@ -61,7 +63,7 @@ impl Order {
         Ok(Order { objects: list })
     }
 
-    /// The order 0 to n - 1.
+    /// The order 0 to n - 1. O(n).
     pub fn first(alloc: Global, n: u16) -> Result<Self, AllocError>
         ensures { IfOk result (λ s. s ≡ range_with_len 0 n) }
     {
@@ -72,6 +74,7 @@ impl Order {
         Ok(Order { objects })
     }
 
+    /// The number of objects.
     pub fn n(&self) -> u16
         ensures size { result ≡ length self.now }
         ensures order { IsOrder result self.now }
@@ -79,6 +82,7 @@ impl Order {
         self.objects.len() as u16
     }
 
+    /// The object at a place, which counts from 0.
     pub fn at(&self, place: u16) -> u16
         requires { place < length self.now }
         ensures value { result ≡ slice_index self.now place }
@@ -87,6 +91,16 @@ impl Order {
         self.objects[place as usize]
     }
 
+    /// Exchanges the objects at two places.
+    pub fn swap(&mut self, first: u16, second: u16)
+        requires first { first < length self.old }
+        requires second { second < length self.old }
+        ensures { self.new ≡ swap self.old first second }
+    {
+        self.objects.swap(first as usize, second as usize);
+    }
+
+    /// Becomes the other order, in the room that it has. O(n).
     pub fn copy_from(&mut self, other: &Order)
         requires { length self.old ≡ length other.now }
         ensures { self.new ≡ other.now }

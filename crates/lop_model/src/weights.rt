@@ -16,7 +16,8 @@ pub enum WeightsFault {
     TooHeavy(i128),
 }
 
-/// The weights of a linear ordering problem, row by row in one list.
+/// The weights of a linear ordering problem: a matrix of n rows of n entries, n from 1 to 512, whose absolute
+/// values off the diagonal sum to at most 10^18. A contract sees n and the list of its rows.
 #[derive(Drop)]
 pub struct Weights {
     size: u16,
@@ -33,7 +34,7 @@ impl Model for Weights {
     ghost invariant = { λ w. AreWeights w.size w.entries.items };
 }
 
-/// The entry in row a and column b of n rows that lie one after another.
+// The entry in row a and column b of n rows that lie one after another.
 fn entry_at(entries: &[i64], n: usize, a: usize, b: usize) -> i64
     requires square { length entries.now ≡ n * n }
     requires within_limit { n ≤ 512 }
@@ -44,7 +45,7 @@ fn entry_at(entries: &[i64], n: usize, a: usize, b: usize) -> i64
     entries[a * n + b]
 }
 
-/// The absolute values of the two entries of a pair.
+// The absolute values of the two entries of a pair, added up.
 fn pair_absolute_at(entries: &[i64], n: usize, a: usize, b: usize) -> i128
     requires square { length entries.now ≡ n * n }
     requires within_limit { n ≤ 512 }
@@ -58,6 +59,7 @@ fn pair_absolute_at(entries: &[i64], n: usize, a: usize, b: usize) -> i128
     i128::from(upper) + i128::from(lower)
 }
 
+// The absolute values off the diagonal, added up.
 fn absolute_sum(entries: &[i64], n: usize) -> i128
     requires square { length entries.now ≡ n * n }
     requires within_limit { n ≤ 512 }
@@ -76,6 +78,7 @@ impl Weights {
     ghost use Rattle.lop_model.specs.Matrix.{entry, total, matrix_of, AreWeights, IsWeights};
     ghost use Rattle.lop_model.specs.WeightsFault.{IsFault};
 
+    /// The weights with these entries, row by row. One pass over the pairs, and no memory is taken.
     pub fn new(n: u16, entries: Vec<i64>) -> Result<Self, WeightsFault>
         ensures ok { IfOk result (λ w. AreWeights n entries.items × (w ≡ matrix_of n entries.items)) }
         ensures fault { IfErr result (IsFault n entries.items) }
@@ -91,6 +94,7 @@ impl Weights {
         Ok(Weights { size: n, entries })
     }
 
+    /// The number of objects.
     pub fn n(&self) -> u16
         ensures size { result ≡ self.now.size }
         ensures weights { IsWeights self.now }
@@ -98,6 +102,7 @@ impl Weights {
         self.size
     }
 
+    /// The entry in row a and column b: what an order with a before b gains of this pair.
     pub fn at(&self, a: u16, b: u16) -> i64
         requires row { a < self.now.size }
         requires column { b < self.now.size }
@@ -106,7 +111,7 @@ impl Weights {
         entry_at(&self.entries, self.size as usize, a as usize, b as usize)
     }
 
-    /// The sum of the entries off the diagonal.
+    /// The sum of the entries off the diagonal. O(n²).
     pub fn total(&self) -> i128
         ensures { result ≡ total self.now }
     {
@@ -119,6 +124,7 @@ impl Weights {
         sum
     }
 
+    /// The same weights in memory of their own. O(n²).
     pub fn copy(&self) -> Result<Self, AllocError>
         ensures { IfOk result (λ w. w ≡ self.now) }
     {

@@ -1,0 +1,5 @@
+//! The solver's one call.
+#![tactic(auto)]
+
+mod bound;
+mod start;

@@ -1,0 +1,13 @@
+pub mod CycleLemmas
+pub mod FenceLemmas
+pub mod ArcLemmas
+pub mod LadderLemmas
+pub mod ObjectLemmas
+pub mod ArcListLemmas
+pub mod KindLemmas
+pub mod FaultLemmas
+pub mod EqLemmas
+pub mod DistinctLemmas
+pub mod InRangeLemmas
+pub mod FaultUniqueLemmas
+pub mod LagrangianLemmas

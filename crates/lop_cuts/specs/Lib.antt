@@ -1,0 +1,4 @@
+pub mod Arcs
+pub mod Kind
+pub mod Fault
+pub mod Lagrangian

@@ -1,0 +1,134 @@
+use super::*;
+use lop_model::Pair;
+use std::test::Fail;
+
+/// The arc from `before` to `after`.
+fn arc(before: u16, after: u16) -> Pair {
+    Pair { before, after }
+}
+
+#[test]
+fn a_dicycle_keeps_two_of_three_arcs(rt: HostRuntime) -> Result<(), Fail> {
+    let cut = Cut::dicycle(2, 0, 1, 3)?;
+    assert_eq!(rt;
+        cut.arcs().as_slice(),
+        [arc(2, 0), arc(0, 1), arc(1, 2)].as_slice()
+    );
+    assert_eq!(rt; cut.right_side(), 2);
+    assert!(rt; cut.has_arc(1, 2) && !cut.has_arc(2, 1));
+    assert_eq!(rt; cut.kind(), &CutKind::Dicycle([2, 0, 1]));
+    Ok(())
+}
+
+#[test]
+fn a_fence_lists_its_arcs_post_by_post(rt: HostRuntime) -> Result<(), Fail> {
+    let cut = Cut::fence(&[0, 1, 2], &[3, 4, 5], 6)?;
+    let arcs = [
+        arc(0, 3),
+        arc(3, 1),
+        arc(4, 0),
+        arc(3, 2),
+        arc(5, 0),
+        arc(1, 4),
+        arc(4, 2),
+        arc(5, 1),
+        arc(2, 5),
+    ];
+    assert_eq!(rt; cut.arcs().as_slice(), arcs.as_slice());
+    assert_eq!(rt; cut.right_side(), 7);
+    assert!(rt; cut.has_arc(5, 0) && !cut.has_arc(5, 2));
+    Ok(())
+}
+
+#[test]
+fn a_ladder_of_three_cycles_has_seven_arcs(rt: HostRuntime) -> Result<(), Fail> {
+    let cycles = [
+        Cycle::Three([0, 1, 2]),
+        Cycle::Three([0, 1, 3]),
+        Cycle::Three([3, 0, 2]),
+    ];
+    let cut = Cut::ladder(&cycles, 4)?;
+    assert_eq!(rt; cut.arcs().len(), 7);
+    assert_eq!(rt; cut.right_side(), 5);
+    assert!(rt; cut.has_arc(2, 0) && cut.has_arc(0, 2) && !cut.has_arc(2, 1));
+    assert!(rt; cut.copy() == cut);
+    Ok(())
+}
+
+#[test]
+fn cuts_stand_by_kind_and_then_by_objects(rt: HostRuntime) -> Result<(), Fail> {
+    let low = Cut::dicycle(0, 1, 2, 6)?;
+    let high = Cut::dicycle(0, 2, 1, 6)?;
+    let fence = Cut::fence(&[0, 1, 2], &[3, 4, 5], 6)?;
+    assert!(rt; low < high && high < fence && low != high);
+    Ok(())
+}
+
+#[test]
+fn objects_are_tested_place_by_place(rt: HostRuntime) {
+    let refused = [
+        ([3, 1, 2], CutFault::Range(0)),
+        ([0, 0, 5], CutFault::Repeated(1)),
+        ([0, 5, 0], CutFault::Range(1)),
+        ([0, 1, 0], CutFault::Repeated(2)),
+    ];
+    for ([a, b, c], fault) in refused {
+        assert_eq!(rt; Cut::dicycle(a, b, c, 3).err(), Some(fault), "{a} {b} {c}");
+    }
+    let fences = [
+        ([0, 1, 2], [3, 4, 6], CutFault::Range(5)),
+        ([0, 1, 2], [3, 1, 6], CutFault::Repeated(4)),
+        ([0, 6, 0], [3, 4, 5], CutFault::Range(1)),
+    ];
+    for (u, w, fault) in fences {
+        assert_eq!(rt; Cut::fence(&u, &w, 6).err(), Some(fault), "{u:?} {w:?}");
+    }
+    let nine = [0, 1, 2, 3, 4, 5, 6, 7, 8];
+    for (u, w) in [(3, 4), (2, 2), (9, 9)] {
+        assert_eq!(rt;
+            Cut::fence(&nine[..u], &nine[..w], 20).err(),
+            Some(CutFault::CountRange)
+        );
+    }
+}
+
+#[test]
+fn cycles_are_tested_in_turn(rt: HostRuntime) {
+    let wide = Cycle::Four([0, 1, 2, 3]);
+    let refused = [
+        (Cycle::Three([5, 5, 9]), CutFault::Range(2)),
+        (Cycle::Four([0, 4, 1, 4]), CutFault::Repeated(2)),
+        (Cycle::Three([2, 3, 4]), CutFault::ArcThrice(2)),
+    ];
+    for (cycle, fault) in refused {
+        let cycles = [wide, wide, cycle];
+        assert_eq!(rt; Cut::ladder(&cycles, 6).err(), Some(fault), "{cycle:?}");
+    }
+    let many = [wide; 10];
+    for (count, fault) in [
+        (2, CutFault::CountRange),
+        (4, CutFault::CountEven),
+        (10, CutFault::CountRange),
+    ] {
+        assert_eq!(rt;
+            Cut::ladder(&many[..count], 6).err(),
+            Some(fault),
+            "{count} cycles"
+        );
+    }
+}
+
+#[test]
+fn a_fault_is_printed_by_its_name(rt: HostRuntime) -> Result<(), Fail> {
+    let named = [
+        (CutFault::CountRange, "CountRange"),
+        (CutFault::CountEven, "CountEven"),
+        (CutFault::Range(3), "Range"),
+        (CutFault::Repeated(4), "Repeated"),
+        (CutFault::ArcThrice(2), "ArcThrice"),
+    ];
+    for (fault, name) in named {
+        assert_eq!(rt; format!(in rt.alloc(); "{fault}")?.as_str(), name);
+    }
+    Ok(())
+}

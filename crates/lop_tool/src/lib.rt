@@ -2,6 +2,10 @@
 #![tactic(auto)]
 
 mod bound;
+mod certificate;
+mod check;
+mod deliver;
+mod input;
 mod reply;
 mod report;
 mod solve;
@@ -10,6 +14,3 @@ mod top;
 mod words;
 
 pub use top::run;
-
-#[cfg(test)]
-mod tests;

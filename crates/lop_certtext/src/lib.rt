@@ -3,6 +3,8 @@
 
 mod reason;
 mod word;
+mod write;
 
 pub use reason::Reason;
 pub use word::CertWord;
+pub use write::put_line;

@@ -3,8 +3,8 @@ use Rattle.lop_desk.specs.World.{World}
 use Rattle.lop_desk.specs.Causes.{Rose}
 use Rattle.lop_model.specs.Matrix.{Matrix, IsUpperBound}
 use Rattle.lop_certtext.specs.Answer.{CheckAnswer, accepted, rejected, too_long, check_answer}
-use Rattle.lop_check.specs.declared.check.Verdict.{Verdict}
-use Rattle.lop_check.specs.declared.check.Verdict.TheVariants.{Accepted, Rejected, Failed, TooLong, Memory}
+use Rattle.lop_check.specs.declared.walk.Verdict.{Verdict}
+use Rattle.lop_check.specs.declared.walk.Verdict.TheVariants.{Accepted, Rejected, Failed, TooLong, Memory}
 
 abbrev pub IsVerdict : Matrix → List ℕ → Verdict → Type 0
 IsVerdict C bytes (Accepted value bound) = check_answer C bytes ≡ accepted value bound

@@ -1,7 +1,7 @@
 //! Stub.
 #![tactic(auto)]
 
-mod check;
+mod walk;
 
-pub use check::{CheckRoom, Verdict, check};
+pub use walk::{CheckRoom, Verdict, check};
 pub use lop_certtext::Reason;

@@ -1,4 +1,5 @@
 pub mod StartLemmas
 pub mod Printed
-pub mod Ends
-pub mod Promises
+pub mod Written
+pub mod LineLength
+pub mod CertificateText

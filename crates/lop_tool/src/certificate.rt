@@ -1,5 +1,5 @@
 // The certificate of a solution.
-ghost use Rattle.std.specs.Prelude.{◌≡◌, ◌≤◌, ◌<◌, ◌+◌, ◌^◌, ◌++◌, [], ◌∷◌, length, take, map, codes, pos, nat_abs, true, IfErr, Some};
+ghost use Rattle.std.specs.Prelude.{◌≡◌, ◌≤◌, ◌<◌, ◌+◌, ◌^◌, ◌++◌, [], ◌∷◌, length, take, map, codes, pos, nat_abs, true, IfErr, Some, All};
 ghost use Rattle.lop_desk.specs.Desk.{IsMaking};
 ghost use Rattle.lop_desk.specs.Whole.{WritesAll};
 ghost use Rattle.lop_desk.specs.Causes.{HasCause};
@@ -126,6 +126,7 @@ fn write_line<D: Desk>(
     requires making { IsMaking (D.told desk.old) }
     requires row { is_row word numbers.now ≡ true }
     requires short { length numbers.now ≤ 512 }
+    requires fit { All (λ n. nat_abs n < 2 ^ 63) numbers.now }
     ensures effect { WritesAll (D.told desk.old) (D.told desk.new) (line_bytes word numbers.now) result }
     ensures cause { HasCause (D.faults desk.old) (D.faults desk.new) result }
 {

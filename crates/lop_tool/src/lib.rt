@@ -3,7 +3,7 @@
 
 mod bound;
 mod certificate;
-mod check;
+mod checking;
 mod deliver;
 mod input;
 mod reply;

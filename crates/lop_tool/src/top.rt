@@ -8,7 +8,7 @@ ghost use Rattle.lop_tool.specs.Reply.{refusal_line, IsPrintable};
 ghost use Rattle.lop_tool.specs.Run.{AnswersCommand, StopCause, Ended, Faulted, ExactlyWhere, SolvesFile, AcceptsCertificate, IsRejected, PrintsRejection, IsRefused, PrintsRefusal, PrintsOnly, LeavesAtMost, LeavesAll, IsComplete};
 ghost use Rattle.lop_tool.specs.Keeping.{CanBeKept};
 
-use crate::check::check;
+use crate::checking::check;
 use crate::deliver::deliver;
 use crate::reply::{Refusal, Reply, Stop, print_reply};
 use crate::solve::solve;

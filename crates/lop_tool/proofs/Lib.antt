@@ -3,3 +3,5 @@ pub mod Printed
 pub mod Written
 pub mod LineLength
 pub mod CertificateText
+pub mod CheckLemmas
+pub mod Ends

@@ -41,6 +41,7 @@ fn solution(alloc: Global, weights: Weights) -> Result<Solution, AllocError>
     ensures high { IfOk result (λ x. x.answer.value ≤ℤ pos (10 ^ 18)) }
     ensures certifiable { IfOk result IsCertifiable }
 {
+    let _n = weights.n();
     let order = start_order(alloc, &weights)?;
     let value = value(&weights, &order);
     let bound = pair_bound_of(&weights);

@@ -35,6 +35,7 @@ fn lines_read_and_written(rt: HostRuntime) -> Result<(), Fail> {
     let mut room = NumberRoom::new(rt.alloc())?;
     let mut text = TextRoom::new(rt.alloc())?;
     for (line, word, numbers) in lines {
+        assert!(rt; line.len() < 100 && numbers.len() < 10);
         assert_eq!(rt; read_line(line, &mut room), Ok(word));
         assert_eq!(rt; room.numbers(), numbers);
         if is_row(word, numbers) {
@@ -87,6 +88,7 @@ fn texts_that_are_no_lines(rt: HostRuntime) -> Result<(), Fail> {
     ];
     let mut room = NumberRoom::new(rt.alloc())?;
     for text in texts {
+        assert!(rt; text.len() < 100);
         assert_eq!(rt; read_line(b"order 1 2", &mut room), Ok(CertWord::OrderLine));
         assert_eq!(rt; read_line(text, &mut room), Err(Spelling));
         assert!(rt; room.numbers().is_empty());

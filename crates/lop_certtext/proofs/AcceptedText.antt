@@ -1,5 +1,5 @@
 -- The text of a certificate that is true is accepted.
-use Rattle.std.proofs.Common.{◌≡◌, ◌≢◌, ℕ, ◌+◌, ◌-◌, ◌*◌, ◌^◌, ◌<◌, ◌≤◌, zero, suc, Bool, true, false, not, ◌&&◌, ◌==◌, cond, List, [], ◌∷◌, ◌++◌, length, map, codes, nat_lt, nat_le, get_or, ℤ, pos, negsuc, nat_abs, ◌+ℤ◌, Option, None, Some, refl, sym, ◌∙◌, ap, subst, arith, rules}
+use Rattle.std.proofs.Common.{◌≡◌, ◌≢◌, ℕ, ◌+◌, ◌-◌, ◌*◌, ◌^◌, ◌<◌, ◌≤◌, suc, Bool, true, false, ◌&&◌, ◌==◌, cond, List, [], ◌∷◌, ◌++◌, length, map, codes, nat_lt, nat_le, get_or, ℤ, pos, nat_abs, ◌+ℤ◌, Option, refl, sym, ◌∙◌, ap, arith}
 use Rattle.std.specs.Prelude.{int_lt, int_le, ◌<ℤ◌}
 use Rattle.std.specs.List.{flat_map, list_all, list_any, slice_split}
 use Rattle.std.proofs.lemmas.Bool.{and_from, or_from, lt-ltb, le-ltb, le-leb, eq-eqb, ne_eqb}
@@ -12,9 +12,9 @@ use Rattle.lop_model.specs.Bound.{pair_bound}
 use Rattle.lop_certtext.specs.declared.word.CertWord.{CertWord}
 use Rattle.lop_certtext.specs.declared.word.CertWord.TheVariants.{Version, Objects, OrderLine, Value, Bound, Cuts, Leaf, End}
 use Rattle.lop_certtext.specs.declared.reason.Reason.TheVariants as reason
-use Rattle.lop_certtext.specs.Line.{CertLine, is_count, is_row, line_text, line_reading}
+use Rattle.lop_certtext.specs.Line.{CertLine, is_count, is_row, line_text}
 use Rattle.lop_certtext.specs.Certificate.{Certificate, certificate_lines, certificate_text, IsTreeCertificate}
-use Rattle.lop_certtext.specs.Answer.{TextLine, ended_line, unended_line, long_line, long_file, limited, lines_from, text_lines, CheckAnswer, accepted, rejected, with_line, expect, is_version, is_objects, is_order_line, is_value, is_bound, is_cuts, is_leaf, is_end, only_number, are_objects, is_order, objects_of, objects_step, order_step, value_step, bound_step, cuts_step, leaf_step, end_step, tail_step, check_answer}
+use Rattle.lop_certtext.specs.Answer.{TextLine, ended_line, long_line, long_file, limited, lines_from, text_lines, CheckAnswer, accepted, rejected, with_line, expect, is_version, is_objects, is_order_line, is_value, is_bound, is_cuts, is_leaf, is_end, only_number, are_objects, is_order, objects_of, objects_step, order_step, value_step, bound_step, cuts_step, leaf_step, end_step, tail_step, check_answer}
 use Rattle.lop_certtext.proofs.Lines.{All-from_free, lf_free-line_text, length-line_text, line_reading-line_text}
 
 -- ---- the lines of a text

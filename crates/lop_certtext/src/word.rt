@@ -1,6 +1,6 @@
 // The first words of lines.
 ghost use Rattle.std.specs.Prelude.{◌≡◌};
-ghost use Rattle.lop_certtext.specs.Line.{word_text};
+ghost use Rattle.lop_certtext.specs.Line.{word_text, first_word, cert_words};
 
 /// The first word of a certificate's line.
 #[derive(Clone, Copy, Debug, PartialEq, Eq)]
@@ -39,4 +39,32 @@ impl CertWord {
             CertWord::End => b"end",
         }
     }
+}
+
+// All first words.
+const WORDS: [CertWord; 12] = [
+    CertWord::Version,
+    CertWord::Objects,
+    CertWord::OrderLine,
+    CertWord::Value,
+    CertWord::Bound,
+    CertWord::Cuts,
+    CertWord::Dicycle,
+    CertWord::Fence,
+    CertWord::Ladder,
+    CertWord::SplitLine,
+    CertWord::Leaf,
+    CertWord::End,
+];
+
+// The first word that the bytes are.
+pub(crate) fn first_word(bytes: &[u8]) -> Option<CertWord>
+    ensures { result ≡ first_word cert_words bytes.now }
+{
+    for word in WORDS {
+        if word.text() == bytes {
+            return Some(word);
+        }
+    }
+    None
 }

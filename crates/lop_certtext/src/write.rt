@@ -13,7 +13,8 @@ use lop_desk::TextRoom;
 pub fn put_line(word: CertWord, numbers: &[i64], room: &mut TextRoom)
     requires row { is_row word numbers.now ≡ true }
     requires fits { length (line_text (record { word = word; numbers = numbers.now })) + 1 ≤ 131072 }
-    ensures { room.new ≡ line_text (record { word = word; numbers = numbers.now }) ++ codes "\n" }
+    ensures text { room.new ≡ line_text (record { word = word; numbers = numbers.now }) ++ codes "\n" }
+    ensures read_back { line_reading (line_text (record { word = word; numbers = numbers.now })) ≡ Some (record { word = word; numbers = numbers.now }) }
 {
     room.clear();
     room.put(word.text());

@@ -5,3 +5,4 @@ pub mod LineLength
 pub mod CertificateText
 pub mod CheckLemmas
 pub mod Ends
+pub mod Promises

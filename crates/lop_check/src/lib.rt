@@ -1,7 +1,15 @@
-//! Stub.
+//! The independent checker of certificates.
 #![tactic(auto)]
 
-mod walk;
+mod checker;
+mod numbers;
+mod reading;
+mod steps;
+mod verdict;
 
-pub use walk::{CheckRoom, Verdict, check};
+pub use checker::{CheckRoom, check};
 pub use lop_certtext::Reason;
+pub use verdict::Verdict;
+
+#[cfg(test)]
+mod tests;

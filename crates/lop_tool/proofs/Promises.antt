@@ -89,7 +89,8 @@ accepts_by file cert w old new status C (Accepted value bound) bounds checked is
   value = value;
   bound = bound;
   checked = checked;
-  bounds = bounds;
+  weighed = bounds.0;
+  bounds = bounds.1;
   status_is = is;
   text = prints;
 }

@@ -5,6 +5,7 @@ use Rattle.lop_desk.specs.Causes.{Rose}
 use Rattle.lop_desk.specs.Desk.{IsMissing}
 use Rattle.lop_model.specs.Matrix.{Matrix, IsUpperBound}
 use Rattle.lop_certtext.specs.declared.reason.Reason.{Reason}
+use Rattle.lop_check.specs.Verdict.{IsWeighed}
 use Rattle.lop_certtext.specs.Certificate.{Certificate, certificate_text, IsTreeCertificate}
 use Rattle.lop_certtext.specs.Answer.{CheckAnswer, accepted, rejected, too_long, check_answer}
 use Rattle.lop_tool.specs.declared.words.Command.{Command}
@@ -79,9 +80,9 @@ abbrev pub answer_of : Outcome → CheckAnswer
 answer_of (Accepted value bound) = accepted value bound
 answer_of (Rejected line reason) = rejected line reason
 
--- what is accepted bounds every order
+-- an accepted value is the weight of some order, and no order weighs more than the accepted bound
 abbrev pub IsBounded : Matrix → Outcome → Type 0
-IsBounded C (Accepted value bound) = IsUpperBound C bound
+IsBounded C (Accepted value bound) = IsWeighed C value × IsUpperBound C bound
 IsBounded C (Rejected line reason) = ⊤
 
 -- the reply to `check`: the file or the certificate is refused, or this is the outcome
@@ -177,6 +178,7 @@ pub record Accepts (file cert : List ℕ) (w : World) (old new : Option World) (
   pub value : ℤ
   pub bound : ℤ
   pub checked : IsChecked file cert w weights (accepted value bound)
+  pub weighed : IsWeighed weights value
   pub bounds : IsUpperBound weights bound
   pub status_is : status ≡ solved_status value bound
   pub text : PrintsOnly old new (accepted_text value bound)

@@ -5,7 +5,7 @@ ghost use Rattle.lop_tool.specs.declared.words.Command.TheVariants.{Check};
 ghost use Rattle.lop_tool.specs.Reply.{IsPrintable};
 ghost use Rattle.lop_tool.specs.Run.{AnswersCheck, StopCause};
 ghost use Rattle.lop_tool.specs.CheckSteps.{ChecksNamed, ChecksBytes};
-ghost use Rattle.lop_check.specs.Verdict.{IsAtStart};
+ghost use Rattle.lop_desk.specs.Desk.{IsOpen};
 ghost use Rattle.lop_tool.specs.Stops.{InputCause, FaultCause};
 ghost use Rattle.lop_tool.specs.Keeping.{CanBeKept};
 
@@ -63,7 +63,7 @@ fn check_opened<D: Desk>(
     room: &mut CheckRoom,
 ) -> Result<Reply, Stop>
     requires same_n { room.old ≡ weights.size }
-    requires opened { IsAtStart (D.told desk.old) }
+    requires opened { IsOpen (D.told desk.old) }
     ensures world { OnlyOpens (D.told desk.old) (D.told desk.new) }
     ensures later { D.faults desk.old ≤ D.faults desk.new }
     ensures reply { IfOk result (ChecksBytes weights (D.told desk.old)) }

@@ -6,3 +6,4 @@ pub mod CertificateText
 pub mod CheckLemmas
 pub mod Ends
 pub mod Promises
+pub mod Agreement

@@ -8,3 +8,4 @@ pub mod Reply
 pub mod Run
 pub mod CheckSteps
 pub mod Keeping
+pub mod Both

@@ -1,6 +1,7 @@
 //! The one call that the program makes, and its promises.
 #![tactic(auto)]
 
+mod both;
 mod bound;
 mod certificate;
 mod checking;
@@ -13,4 +14,5 @@ mod start;
 mod top;
 mod words;
 
+pub use both::solve_then_check;
 pub use top::run;

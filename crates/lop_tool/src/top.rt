@@ -53,6 +53,9 @@ pub fn run<D: Desk>(alloc: Global, words: &[String], desk: &mut D) -> u8
 
     ensures completes { let command = command_of (map (λ s. string_bytes s) words.now) in
         IfSome (D.told desk.old) (λ w. IsComplete command w (D.faults desk.old) (D.faults desk.new) result) }
+
+    // All of this at once, for a run that others follow.
+    ensures ended { Ended (command_of (map (λ s. string_bytes s) words.now)) (D.told desk.old) (D.told desk.new) (D.faults desk.old) (D.faults desk.new) result }
 {
     carry_out(alloc, words, desk)
 }

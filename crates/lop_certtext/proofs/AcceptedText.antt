@@ -7,7 +7,8 @@ use Rattle.std.proofs.lemmas.Int.{ints}
 use Rattle.std.proofs.lemmas.List.{append_assoc, length-map}
 use Rattle.std.proofs.lemmas.List.Splits.{slice_split_at}
 use Rattle.lop_model.specs.Order.{IsOrder}
-use Rattle.lop_model.specs.Matrix.{Matrix, IsWeights, weight}
+use Rattle.lop_model.specs.Matrix.{Matrix, IsWeights, IsUpperBound, weight}
+use Rattle.lop_model.proofs.BoundLemmas.{IsUpperBound-pair_bound}
 use Rattle.lop_model.specs.Bound.{pair_bound}
 use Rattle.lop_certtext.specs.declared.word.CertWord.{CertWord}
 use Rattle.lop_certtext.specs.declared.word.CertWord.TheVariants.{Version, Objects, OrderLine, Value, Bound, Cuts, Leaf, End}
@@ -31,7 +32,7 @@ AreWritten (l ∷ ls) = IsWritten l × AreWritten ls
 pub written : (l : CertLine) → is_row l.word l.numbers ≡ true → length l.numbers ≤ 1000 → IsWritten l
 written l row few = record { row = row; short = omega (arith, length-line_text l row) }
 
-abbrev text_of : List CertLine → List ℕ
+abbrev pub text_of : List CertLine → List ℕ
 text_of ls = flat_map (λ l. line_text l ++ codes "\n") ls
 
 -- the pieces between LFs
@@ -47,11 +48,11 @@ limited-ended start bytes short within =
     ap (λ (t : Bool). cond (t && nat_le (start + 131072) (2 ^ 40)) long_line (cond (nat_lt (2 ^ 40) (start + length bytes + 1)) long_file (ended_line bytes))) (le-ltb 131072 (length bytes) (omega arith))
     ∙ ap (λ (t : Bool). cond t long_file (ended_line bytes)) (le-ltb (2 ^ 40) (start + length bytes + 1) within)
 
-lines_from-more : (start : ℕ) (piece next : List ℕ) (ps : List (List ℕ)) → lines_from start (piece ∷ next ∷ ps) ≡ limited start piece true ∷ lines_from (start + length piece + 1) (next ∷ ps)
+pub lines_from-more : (start : ℕ) (piece next : List ℕ) (ps : List (List ℕ)) → lines_from start (piece ∷ next ∷ ps) ≡ limited start piece true ∷ lines_from (start + length piece + 1) (next ∷ ps)
 lines_from-more start [] next ps = refl
 lines_from-more start (b ∷ bs) next ps = refl
 
-abbrev ended : CertLine → TextLine
+abbrev pub ended : CertLine → TextLine
 ended l = ended_line (line_text l)
 
 -- a line in front of others
@@ -249,3 +250,7 @@ module _ (C : Matrix) (weights : IsWeights C) (c : Certificate) (holds : IsTreeC
       ap (λ (lines : List TextLine). expect is_version 1 lines (λ _ rest. objects_step C rest)) (text_lines-text (certificate_lines c) lines_written (omega arith))
       ∙ expect-line is_version 1 version_line from_objects (λ _ rest. objects_step C rest) version_written refl
       ∙ objects_holds
+
+-- no order weighs more than the bound of a certificate that is true
+pub IsUpperBound-certificate : (C : Matrix) (c : Certificate) → IsTreeCertificate C c → IsUpperBound C c.bound
+IsUpperBound-certificate C c holds = record { each = λ s order. omega (arith, ints, (IsUpperBound-pair_bound C).each s order, holds.certified) }

@@ -1,5 +1,5 @@
 -- A certificate that was written is accepted by the check that follows.
-use Rattle.std.proofs.Common.{◌≡◌, ◌≢◌, ◌⊎◌, ℕ, ◌≤◌, Bool, true, false, cond, ◌&&◌, List, [], ◌∷◌, Option, None, Some, IfSome, Result, Ok, refl, sym, ◌∙◌, ap, subst, inl, inr}
+use Rattle.std.proofs.Common.{◌≡◌, ◌≢◌, ◌⊎◌, ℕ, ◌≤◌, Bool, true, false, cond, ◌&&◌, List, [], ◌∷◌, Option, None, Some, Ok, refl, sym, ◌∙◌, ap, subst, inl, inr}
 use Rattle.std.specs.Prelude.{codes}
 use Rattle.std.specs.Str.{bytes_eq}
 use Rattle.std.proofs.lemmas.Bool.Decides.{not_from_Decides}
@@ -8,7 +8,6 @@ use Rattle.lop_desk.specs.World.{World, NamedFile, file_named, put_file}
 use Rattle.lop_desk.specs.Causes.{Rose}
 use Rattle.lop_desk.proofs.Files.{named_put, named_put_other}
 use Rattle.lop_desk.proofs.Printing.{rose_from}
-use Rattle.lop_model.specs.Matrix.{Matrix}
 use Rattle.lop_certtext.specs.Answer.{CheckAnswer, accepted, check_answer}
 use Rattle.lop_certtext.specs.Certificate.{certificate_text}
 use Rattle.lop_certtext.proofs.AcceptedText.{check_answer-certificate_text}

@@ -1,6 +1,6 @@
 -- How the steps of `check` come to its reply.
 use Rattle.std.proofs.Common.{◌≡◌, ℕ, List, [], drop, Option, None, Some, IfSome, IfOk, unwrap_or, Result, Ok, Err, IsSome, refl, sym, ◌∙◌, ap, subst}
-use Rattle.lop_desk.specs.World.{World, Opened, NamedFile, file_named, unread, with_opened}
+use Rattle.lop_desk.specs.World.{World, NamedFile, file_named, unread, with_opened}
 use Rattle.lop_desk.specs.Desk.{IsThere}
 use Rattle.lop_desk.specs.Whole.{OnlyOpens}
 use Rattle.lop_model.specs.Matrix.{Matrix}

@@ -1,6 +1,6 @@
 -- How the steps of a run make its end.
 use Rattle.std.proofs.Common.{◌≡◌, ℕ, ◌≤◌, List, take, Option, None, Some, inr, refl, ◌∙◌, ap}
-use Rattle.lop_desk.specs.World.{World, NamedFile, with_opened, with_made, with_printed}
+use Rattle.lop_desk.specs.World.{World, NamedFile, with_made, with_printed}
 use Rattle.lop_desk.specs.Whole.{OnlyOpens, PrintsFront}
 use Rattle.lop_desk.specs.Causes.{Rose}
 use Rattle.lop_desk.proofs.Printing.{rose_from}

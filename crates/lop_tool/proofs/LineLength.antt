@@ -1,5 +1,5 @@
 -- A line of few numbers is short.
-use Rattle.std.proofs.Common.{◌≡◌, ℕ, zero, suc, ◌+◌, ◌*◌, ◌^◌, ◌<◌, ◌≤◌, true, List, [], ◌∷◌, ◌++◌, length, map, get_or, ℤ, pos, negsuc, refl, arith, length-append}
+use Rattle.std.proofs.Common.{◌≡◌, ℕ, zero, suc, ◌+◌, ◌*◌, ◌^◌, ◌<◌, ◌≤◌, true, List, [], ◌∷◌, length, map, get_or, ℤ, pos, negsuc, refl, arith, length-append}
 use Rattle.std.specs.Prelude.{nat_abs, All}
 use Rattle.std.specs.Fmt.{signed_decimal}
 use Rattle.std.specs.List.{flat_map, list_all}
@@ -7,7 +7,7 @@ use Rattle.std.proofs.lemmas.Bool.Decides.{nat_tests}
 use Rattle.std.proofs.lemmas.Fmt.{length-decimal-le}
 use Rattle.lop_certtext.specs.declared.word.CertWord.{CertWord}
 use Rattle.lop_certtext.specs.declared.word.CertWord.TheVariants.{Version, Objects, OrderLine, Value, Bound, Cuts, Dicycle, Fence, Ladder, SplitLine, Leaf, End}
-use Rattle.lop_certtext.specs.Line.{CertLine, line_text, word_text, is_count, is_row}
+use Rattle.lop_certtext.specs.Line.{line_text, word_text, is_count, is_row}
 
 short_number : (z : ℤ) → nat_abs z < 2 ^ 63 → length (signed_decimal z) ≤ 21
 short_number (pos n) fits = omega (arith, length-decimal-le 20 n (omega arith) (omega arith) (omega arith))

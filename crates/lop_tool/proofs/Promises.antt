@@ -1,8 +1,8 @@
 -- Each promise of a run, from how it ended.
-use Rattle.std.proofs.Common.{◌≡◌, ◌⊎◌, ℕ, ◌+◌, ◌^◌, ◌<◌, ◌≤◌, Bool, true, false, cond, List, [], Option, None, Some, IfSome, Result, Ok, Err, ℤ, pos, negsuc, neg_ℤ, ◌≤ℤ◌, ◌+ℤ◌, inl, inr, refl, sym, ◌∙◌, ap, subst, arith}
+use Rattle.std.proofs.Common.{◌≡◌, ◌⊎◌, ℕ, ◌^◌, ◌<◌, Bool, true, false, cond, List, [], Option, None, Some, IfSome, Result, Ok, Err, ℤ, pos, negsuc, neg_ℤ, ◌≤ℤ◌, inl, inr, refl, sym, ◌∙◌, ap, subst, arith}
 use Rattle.std.specs.Prelude.{nat_abs}
 use Rattle.std.proofs.lemmas.Int.{ints}
-use Rattle.lop_desk.specs.World.{World, NamedFile, file_named}
+use Rattle.lop_desk.specs.World.{World, file_named}
 use Rattle.lop_desk.specs.Causes.{Rose}
 use Rattle.lop_desk.specs.Desk.{IsMissing}
 use Rattle.lop_model.specs.Matrix.{Matrix}
@@ -23,7 +23,7 @@ use Rattle.lop_tool.specs.declared.reply.Reply.{Reply}
 use Rattle.lop_tool.specs.declared.reply.Reply.TheVariants.{Refused, Solved, Checked}
 use Rattle.lop_tool.specs.AnswerText.{is_optimal}
 use Rattle.lop_tool.specs.Input.{input_named, reading_of}
-use Rattle.lop_tool.specs.Reply.{IsSolution, reply_status, solved_status, outcome_status, outcome_text, refusal_line}
+use Rattle.lop_tool.specs.Reply.{IsSolution, reply_status, outcome_status, outcome_text, refusal_line}
 use Rattle.lop_tool.specs.Run.{Ended, replied, cut_off, faulted, lacked, Answers, Faulted, PrintsOnly, IsChecked, IsBounded, IsRejection, IsRejected, IsRefused, PrintsRejection, PrintsRefusal, answer_of, certificate_of, ExactlyWhere, SolvesFile, AcceptsCertificate, Accepts, EndsBy, IsComplete, Refuses, input_file}
 
 -- ---- statuses

@@ -1,5 +1,5 @@
 -- What a `solve` and then a `check` promise.
-use Rattle.std.specs.Prelude.{◌≡◌, ◌⊎◌, ℕ, ◌≤◌, List, Option, None, Some, IfSome}
+use Rattle.std.specs.Prelude.{◌≡◌, ◌⊎◌, ℕ, ◌≤◌, Option, None, Some, IfSome}
 use Rattle.lop_desk.specs.World.{World}
 use Rattle.lop_desk.specs.Causes.{Rose}
 use Rattle.lop_tool.specs.declared.words.Command.{Command}

@@ -4,7 +4,7 @@ use Rattle.lop_desk.specs.World.{World, NamedFile, with_printed}
 use Rattle.lop_desk.specs.Causes.{Rose}
 use Rattle.lop_certtext.specs.declared.word.CertWord.{CertWord}
 use Rattle.lop_certtext.specs.declared.word.CertWord.TheVariants.{Version, Objects, OrderLine, Value, Bound, Cuts, Leaf, End}
-use Rattle.lop_certtext.specs.Line.{CertLine, line_text}
+use Rattle.lop_certtext.specs.Line.{line_text}
 use Rattle.lop_tool.specs.declared.reply.Solution.{Solution}
 use Rattle.lop_tool.specs.declared.reply.Reply.{Reply}
 use Rattle.lop_tool.specs.declared.reply.Reply.TheVariants.{Refused, Solved, Checked}

@@ -1,5 +1,5 @@
 -- What a run promises.
-use Rattle.std.specs.Prelude.{◌≡◌, ◌⊎◌, ℕ, ◌<◌, ◌≤◌, List, take, ℤ, Option, None, Some, IfSome, Result, Ok, Err, ⊤}
+use Rattle.std.specs.Prelude.{◌≡◌, ◌⊎◌, ℕ, List, take, ℤ, Option, None, Some, IfSome, Result, Ok, Err, ⊤}
 use Rattle.lop_desk.specs.World.{World, NamedFile, file_named, put_file, with_opened, with_made, with_printed}
 use Rattle.lop_desk.specs.Causes.{Rose}
 use Rattle.lop_desk.specs.Desk.{IsMissing}

@@ -1,5 +1,5 @@
 -- Why a step has no reply.
-use Rattle.std.specs.Prelude.{◌≡◌, ◌⊎◌, ℕ, List, Option, ⊤}
+use Rattle.std.specs.Prelude.{◌⊎◌, ℕ, List, Option, ⊤}
 use Rattle.lop_desk.specs.World.{World}
 use Rattle.lop_desk.specs.Causes.{Rose}
 use Rattle.lop_desk.specs.Desk.{IsMissing}

@@ -16,3 +16,6 @@ mod words;
 
 pub use both::solve_then_check;
 pub use top::run;
+
+#[cfg(test)]
+mod tests;

@@ -31,7 +31,7 @@ AreWritten (l ∷ ls) = IsWritten l × AreWritten ls
 pub written : (l : CertLine) → is_row l.word l.numbers ≡ true → length l.numbers ≤ 1000 → IsWritten l
 written l row few = record { row = row; short = omega (arith, length-line_text l row) }
 
-abbrev text_of : List CertLine → List ℕ
+abbrev pub text_of : List CertLine → List ℕ
 text_of ls = flat_map (λ l. line_text l ++ codes "\n") ls
 
 -- the pieces between LFs
@@ -47,11 +47,11 @@ limited-ended start bytes short within =
     ap (λ (t : Bool). cond (t && nat_le (start + 131072) (2 ^ 40)) long_line (cond (nat_lt (2 ^ 40) (start + length bytes + 1)) long_file (ended_line bytes))) (le-ltb 131072 (length bytes) (omega arith))
     ∙ ap (λ (t : Bool). cond t long_file (ended_line bytes)) (le-ltb (2 ^ 40) (start + length bytes + 1) within)
 
-lines_from-more : (start : ℕ) (piece next : List ℕ) (ps : List (List ℕ)) → lines_from start (piece ∷ next ∷ ps) ≡ limited start piece true ∷ lines_from (start + length piece + 1) (next ∷ ps)
+pub lines_from-more : (start : ℕ) (piece next : List ℕ) (ps : List (List ℕ)) → lines_from start (piece ∷ next ∷ ps) ≡ limited start piece true ∷ lines_from (start + length piece + 1) (next ∷ ps)
 lines_from-more start [] next ps = refl
 lines_from-more start (b ∷ bs) next ps = refl
 
-abbrev ended : CertLine → TextLine
+abbrev pub ended : CertLine → TextLine
 ended l = ended_line (line_text l)
 
 -- a line in front of others

@@ -7,7 +7,8 @@ use Rattle.std.proofs.lemmas.Int.{ints}
 use Rattle.std.proofs.lemmas.List.{append_assoc, length-map}
 use Rattle.std.proofs.lemmas.List.Splits.{slice_split_at}
 use Rattle.lop_model.specs.Order.{IsOrder}
-use Rattle.lop_model.specs.Matrix.{Matrix, IsWeights, weight}
+use Rattle.lop_model.specs.Matrix.{Matrix, IsWeights, IsUpperBound, weight}
+use Rattle.lop_model.proofs.BoundLemmas.{IsUpperBound-pair_bound}
 use Rattle.lop_model.specs.Bound.{pair_bound}
 use Rattle.lop_certtext.specs.declared.word.CertWord.{CertWord}
 use Rattle.lop_certtext.specs.declared.word.CertWord.TheVariants.{Version, Objects, OrderLine, Value, Bound, Cuts, Leaf, End}
@@ -249,3 +250,7 @@ module _ (C : Matrix) (weights : IsWeights C) (c : Certificate) (holds : IsTreeC
       ap (λ (lines : List TextLine). expect is_version 1 lines (λ _ rest. objects_step C rest)) (text_lines-text (certificate_lines c) lines_written (omega arith))
       ∙ expect-line is_version 1 version_line from_objects (λ _ rest. objects_step C rest) version_written refl
       ∙ objects_holds
+
+-- no order weighs more than the bound of a certificate that is true
+pub IsUpperBound-certificate : (C : Matrix) (c : Certificate) → IsTreeCertificate C c → IsUpperBound C c.bound
+IsUpperBound-certificate C c holds = record { each = λ s order. omega (arith, ints, (IsUpperBound-pair_bound C).each s order, holds.certified) }

@@ -1,5 +1,5 @@
 -- What the reader answers is the first of the lines to come.
-use Rattle.std.proofs.Common.{◌≡◌, ◌≢◌, ◌⊎◌, ℕ, zero, suc, ◌+◌, ◌-◌, ◌^◌, ◌<◌, ◌≤◌, Bool, true, false, cond, ltb, leb, eqb, ◌&&◌, List, [], ◌∷◌, ◌++◌, length, take, drop, get_or, Option, None, Some, refl, sym, ◌∙◌, ap, subst, inl, inr, arith, length-append, length-drop, length-take, get_or-take}
+use Rattle.std.proofs.Common.{◌≡◌, ◌≢◌, ◌⊎◌, ℕ, zero, suc, ◌+◌, ◌-◌, ◌^◌, ◌<◌, ◌≤◌, Bool, true, false, cond, ltb, leb, eqb, ◌&&◌, List, [], ◌∷◌, ◌++◌, length, drop, get_or, Option, None, Some, refl, sym, ◌∙◌, ap, subst, inl, inr, arith, length-append, length-drop, get_or-take}
 use Rattle.std.specs.Prelude.{◌==◌}
 use Rattle.std.specs.List.{slice_split, All}
 use Rattle.std.proofs.lemmas.Bool.{cases_lt, cases_eq, lt-ltb, le-leb, le-ltb}
@@ -9,7 +9,7 @@ use Rattle.std.proofs.lemmas.List.Elements.{All-from_get_or}
 use Rattle.std.proofs.lemmas.List.Splits.{slice_split_at, slice_split_none, length-slice_split}
 use Rattle.std.proofs.Math.Seq.{get_or-append_seam}
 use Rattle.lop_desk.specs.World.{World, unread, moved_by, place_moved}
-use Rattle.lop_desk.specs.LineState.{LineState, NoLf, to_come, to_come_after, allowance, with_ending, IsText, IsEnd, IsLongLine, IsLongFile}
+use Rattle.lop_desk.specs.LineState.{LineState, NoLf, to_come, to_come_after, allowance, with_ending, IsText}
 use Rattle.lop_desk.specs.Line.{IsLine, HoldsLine, LineCause}
 use Rattle.lop_desk.specs.declared.line.Line.TheVariants as line
 use Rattle.lop_desk.specs.declared.line.LineStop.TheVariants as stop

@@ -1,6 +1,10 @@
 -- How the steps go on from each other.
-use Rattle.std.proofs.Common.{◌≡◌, ◌≢◌, ℕ, ◌-◌, ◌^◌, ◌≤◌, Bool, true, false, cond, List, [], ◌∷◌, length, ℤ, pos, ◌+ℤ◌, ◌≤ℤ◌, ◌<ℤ◌, Option, None, Some, refl, sym, ◌∙◌, ap, subst, arith}
-use Rattle.std.specs.Prelude.{if◌then◌else◌}
+use Rattle.std.proofs.Common.{◌≡◌, ◌≢◌, ℕ, ◌-◌, ◌^◌, ◌≤◌, Bool, true, false, cond, List, ℤ, pos, ◌+ℤ◌, ◌≤ℤ◌, ◌<ℤ◌, Option, None, Some, refl, sym, ◌∙◌, ap, subst, arith}
+use Rattle.std.specs.Prelude.{int_le, int_lt, ◌&&◌}
+use Rattle.std.proofs.Common.{eqb}
+use Rattle.std.proofs.lemmas.Int.{ints}
+use Rattle.std.proofs.lemmas.Bool.Decides.{nat_tests}
+use Rattle.lop_model.specs.Matrix.{Matrix, weight, IsUpperBound}
 use Rattle.lop_desk.specs.World.{World, moved_by}
 use Rattle.lop_desk.specs.LineState.{LineState}
 use Rattle.lop_desk.specs.Line.{IsLine, HoldsLine, LineCause}
@@ -105,3 +109,58 @@ pub reads_due : (due word : CertWord) (text : List ℕ) (numbers : List ℤ) (fo
 reads_due due word text numbers found read is number next =
     ap (λ (l : Option CertLine). with_line (is_due due) number l next) read
     ∙ ap (λ (b : Bool). cond b (next numbers) (rejected number reason.Spelling)) (due_test due word ∙ sym is)
+
+-- a test passes: the verdict is that of the step behind it
+pub answers_then : (told : Option World) (r : LineState) (b : Bool) (step : List TextLine → CheckAnswer) (other : CheckAnswer) (v : Verdict) → b ≡ true → Answers told r step v → Answers told r (λ lines. cond b (step lines) other) v
+answers_then told r b step other v e so = answers_alike told r (λ lines. cond b (step lines) other) step v (λ lines. ap (λ (t : Bool). cond t (step lines) other) e) so
+
+-- a test fails: the verdict is the other answer
+pub answers_else : (told : Option World) (r : LineState) (b : Bool) (step : List TextLine → CheckAnswer) (other : CheckAnswer) (v : Verdict) → b ≡ false → IsVerdict other v → Answers told r (λ lines. cond b (step lines) other) v
+answers_else told r b step other v e so = always told r (λ lines. cond b (step lines) other) v (λ lines. subst (λ a. IsVerdict a v) (sym (ap (λ (t : Bool). cond t (step lines) other) e)) so)
+
+pub not_eqb : (a b : ℕ) → a ≢ b → eqb a b ≡ false
+not_eqb a b ne = grind (arith, nat_tests)
+
+pub same_both : (x y : ℤ) → x ≡ y → (int_le x y && int_le y x) ≡ true
+same_both x y e = both_true (int_le x y) (int_le y x) (le_test x y (omega (arith, ints))) (le_test y x (omega (arith, ints)))
+  where
+    le_test : (a b : ℤ) → a ≤ℤ b → int_le a b ≡ true
+    le_test a b l = grind (arith, ints)
+
+    both_true : (a b : Bool) → a ≡ true → b ≡ true → (a && b) ≡ true
+    both_true true b e f = f
+    both_true false b e f = absurd cc
+
+pub not_both : (x y : ℤ) → (x ≡ y → ⊥) → (int_le x y && int_le y x) ≡ false
+not_both x y ne = by_tests (int_le x y) (int_le y x) (λ e f. ne (same x y (le_from x y e) (le_from y x f)))
+  where
+    le_from : (a b : ℤ) → int_le a b ≡ true → a ≤ℤ b
+    le_from a b e = grind (arith, ints)
+
+    same : (a b : ℤ) → a ≤ℤ b → b ≤ℤ a → a ≡ b
+    same a b l m = omega (arith, ints)
+
+    by_tests : (a b : Bool) → (a ≡ true → b ≡ true → ⊥) → (a && b) ≡ false
+    by_tests true true h = absurd (h refl refl)
+    by_tests true false h = refl
+    by_tests false b h = refl
+
+pub lt_test : (x y : ℤ) → x <ℤ y → int_lt x y ≡ true
+lt_test x y l = grind (arith, ints)
+
+pub not_lt_test : (x y : ℤ) → y ≤ℤ x → int_lt x y ≡ false
+not_lt_test x y l = grind (arith, ints)
+
+-- no order weighs more than a number that isn't below the bound and one
+pub bound_raised : (C : Matrix) (upper bound : ℤ) → IsUpperBound C upper → upper <ℤ (bound +ℤ pos 1) → IsUpperBound C bound
+bound_raised C upper bound so l = record { each = λ s o. raised (weight C s) (so.each s o) }
+  where
+    raised : (w : ℤ) → w ≤ℤ upper → w ≤ℤ bound
+    raised w m = omega (arith, ints)
+
+-- the two numbers that a reason keeps
+pub verdict_value : (a b u l : ℤ) (v : Verdict) → v ≡ verdict.Rejected 4 (reason.Value u l) → u ≡ a → l ≡ b → IsVerdict (rejected 4 (reason.Value a b)) v
+verdict_value a b u l v is first second = subst (IsVerdict (rejected 4 (reason.Value a b))) (sym is) (ap (λ (x : ℤ). rejected 4 (reason.Value x b)) (sym first) ∙ ap (λ (y : ℤ). rejected 4 (reason.Value u y)) (sym second))
+
+pub verdict_high : (a b u l : ℤ) (v : Verdict) → v ≡ verdict.Rejected 7 (reason.High u l) → u ≡ a → l ≡ b → IsVerdict (rejected 7 (reason.High a b)) v
+verdict_high a b u l v is first second = subst (IsVerdict (rejected 7 (reason.High a b))) (sym is) (ap (λ (x : ℤ). rejected 7 (reason.High x b)) (sym first) ∙ ap (λ (y : ℤ). rejected 7 (reason.High u y)) (sym second))

@@ -1,7 +1,6 @@
-use Rattle.std.proofs.Common.{◌≡◌, Bool, true, false, ℤ, List, ap, ◌∙◌, sym, subst}
+use Rattle.std.proofs.Common.{Bool, ap, ◌∙◌, subst}
 use Rattle.lop_desk.specs.declared.line.Line.TheVariants as line
-use Rattle.lop_desk.specs.LineState.{LineState}
-use Rattle.lop_check.specs.Walk.{ReadsDue, GoesOn, StopsAt}
+use Rattle.lop_check.specs.Walk.{ReadsDue}
 use Rattle.lop_check.proofs.Walk.{goes_on, stops_at, stops_unended, stops_long, stops_far}
 use Rattle.lop_check.proofs.reading.Reading.expect.Goals as goal
 

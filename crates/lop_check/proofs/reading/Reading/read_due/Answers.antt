@@ -1,4 +1,4 @@
-use Rattle.std.proofs.Common.{◌≡◌, List, ℕ, ap, ◌∙◌, sym, subst}
+use Rattle.std.proofs.Common.{List, ℕ, subst}
 use Rattle.lop_check.specs.Walk.{ReadsDue}
 use Rattle.lop_check.proofs.Walk.{reads_due}
 use Rattle.lop_check.proofs.reading.Reading.read_due.Goals as goal

@@ -1,4 +1,3 @@
-use Rattle.lop_check.specs.Walk.{Answers}
 use Rattle.lop_check.proofs.Walk.{tail_line, tail_long, tail_far}
 use Rattle.lop_check.proofs.reading.Reading.tail_step.Goals as goal
 

@@ -34,8 +34,3 @@ VerdictCause before now (Accepted value bound) = ⊤
 VerdictCause before now (Rejected line reason) = ⊤
 VerdictCause before now TooLong = ⊤
 VerdictCause before now Memory = ⊤
-
--- the verdict isn't want of memory
-abbrev pub HasMemory : Verdict → Type 0
-HasMemory Memory = ⊥
-HasMemory verdict = ⊤

@@ -1,5 +1,5 @@
 -- The text of a certificate that is true is accepted.
-use Rattle.std.proofs.Common.{◌≡◌, ◌≢◌, ℕ, ◌+◌, ◌-◌, ◌*◌, ◌^◌, ◌<◌, ◌≤◌, zero, suc, Bool, true, false, not, ◌&&◌, ◌==◌, cond, List, [], ◌∷◌, ◌++◌, length, map, codes, nat_lt, nat_le, get_or, ℤ, pos, negsuc, nat_abs, ◌+ℤ◌, Option, None, Some, refl, sym, ◌∙◌, ap, subst, arith, rules}
+use Rattle.std.proofs.Common.{◌≡◌, ◌≢◌, ℕ, ◌+◌, ◌-◌, ◌*◌, ◌^◌, ◌<◌, ◌≤◌, suc, Bool, true, false, ◌&&◌, ◌==◌, cond, List, [], ◌∷◌, ◌++◌, length, map, codes, nat_lt, nat_le, get_or, ℤ, pos, nat_abs, ◌+ℤ◌, Option, refl, sym, ◌∙◌, ap, arith}
 use Rattle.std.specs.Prelude.{int_lt, int_le, ◌<ℤ◌}
 use Rattle.std.specs.List.{flat_map, list_all, list_any, slice_split}
 use Rattle.std.proofs.lemmas.Bool.{and_from, or_from, lt-ltb, le-ltb, le-leb, eq-eqb, ne_eqb}
@@ -12,23 +12,23 @@ use Rattle.lop_model.specs.Bound.{pair_bound}
 use Rattle.lop_certtext.specs.declared.word.CertWord.{CertWord}
 use Rattle.lop_certtext.specs.declared.word.CertWord.TheVariants.{Version, Objects, OrderLine, Value, Bound, Cuts, Leaf, End}
 use Rattle.lop_certtext.specs.declared.reason.Reason.TheVariants as reason
-use Rattle.lop_certtext.specs.Line.{CertLine, is_count, is_row, line_text, line_reading}
+use Rattle.lop_certtext.specs.Line.{CertLine, is_count, is_row, line_text}
 use Rattle.lop_certtext.specs.Certificate.{Certificate, certificate_lines, certificate_text, IsTreeCertificate}
-use Rattle.lop_certtext.specs.Answer.{TextLine, ended_line, unended_line, long_line, long_file, limited, lines_from, text_lines, CheckAnswer, accepted, rejected, with_line, expect, is_version, is_objects, is_order_line, is_value, is_bound, is_cuts, is_leaf, is_end, only_number, are_objects, is_order, objects_of, objects_step, order_step, value_step, bound_step, cuts_step, leaf_step, end_step, tail_step, check_answer}
+use Rattle.lop_certtext.specs.Answer.{TextLine, ended_line, long_line, long_file, limited, lines_from, text_lines, CheckAnswer, accepted, rejected, with_line, expect, is_version, is_objects, is_order_line, is_value, is_bound, is_cuts, is_leaf, is_end, only_number, are_objects, is_order, objects_of, objects_step, order_step, value_step, bound_step, cuts_step, leaf_step, end_step, tail_step, check_answer}
 use Rattle.lop_certtext.proofs.Lines.{All-from_free, lf_free-line_text, length-line_text, line_reading-line_text}
 
 -- ---- the lines of a text
 
 -- a line that may be written, of fewer than 131,072 bytes
-record IsWritten (l : CertLine) : Type 0 where
-  row : is_row l.word l.numbers ≡ true
-  short : length (line_text l) < 131072
+pub record IsWritten (l : CertLine) : Type 0 where
+  pub row : is_row l.word l.numbers ≡ true
+  pub short : length (line_text l) < 131072
 
 abbrev AreWritten : List CertLine → Type 0
 AreWritten [] = Unit {0}
 AreWritten (l ∷ ls) = IsWritten l × AreWritten ls
 
-written : (l : CertLine) → is_row l.word l.numbers ≡ true → length l.numbers ≤ 1000 → IsWritten l
+pub written : (l : CertLine) → is_row l.word l.numbers ≡ true → length l.numbers ≤ 1000 → IsWritten l
 written l row few = record { row = row; short = omega (arith, length-line_text l row) }
 
 abbrev text_of : List CertLine → List ℕ
@@ -73,7 +73,7 @@ text_lines-text ls w few = ap (lines_from 0) (pieces-text ls w) ∙ lines_from-t
 
 -- ---- an order
 
-abbrev numbers_of_order : List ℕ → List ℤ
+abbrev pub numbers_of_order : List ℕ → List ℤ
 numbers_of_order s = map (λ a. pos (a + 1)) s
 
 are_objects-order : (n : ℕ) (taken : List ℤ) (s : List ℕ) → ((p : ℕ) → p < length s → get_or s p 0 < n) → ((p q : ℕ) → p < q → q < length s → get_or s p 0 ≢ get_or s q 0) → ((p : ℕ) → p < length s → list_any (λ y. nat_abs y == get_or s p 0 + 1) taken ≡ false) → are_objects n taken (numbers_of_order s) ≡ true
@@ -98,13 +98,13 @@ objects_of-order (a ∷ s) =
     let same : (a + 1) - 1 ≡ a = omega arith in
     ap (λ (x : ℕ). x ∷ objects_of (numbers_of_order s)) same ∙ ap (λ (l : List ℕ). a ∷ l) (objects_of-order s)
 
-counts-order : (n : ℕ) (s : List ℕ) → n ≤ 512 → ((p : ℕ) → p < length s → get_or s p 0 < n) → list_all is_count (numbers_of_order s) ≡ true
+pub counts-order : (n : ℕ) (s : List ℕ) → n ≤ 512 → ((p : ℕ) → p < length s → get_or s p 0 < n) → list_all is_count (numbers_of_order s) ≡ true
 counts-order n [] small below = refl
 counts-order n (a ∷ s) small below =
     let within : a < n = below 0 (omega arith) in
     and_from _ _ (lt-ltb (a + 1) (2 ^ 63) (omega arith)) (counts-order n s small (λ p h. below (suc p) (omega arith)))
 
-row-order : (s : List ℕ) → 0 < length s → list_all is_count (numbers_of_order s) ≡ true → is_row OrderLine (numbers_of_order s) ≡ true
+pub row-order : (s : List ℕ) → 0 < length s → list_all is_count (numbers_of_order s) ≡ true → is_row OrderLine (numbers_of_order s) ≡ true
 row-order [] some counts = absurd (omega arith)
 row-order (a ∷ s) some counts = counts
 
@@ -122,29 +122,43 @@ int_le-same z = grind (arith, ints)
 int_lt-true : (y z : ℤ) → y <ℤ z → int_lt y z ≡ true
 int_lt-true y z less = grind (arith, ints)
 
-abbrev version_line : CertLine
+abbrev pub version_line : CertLine
 version_line = record { word = Version; numbers = pos 1 ∷ [] }
 
-abbrev objects_line : Certificate → CertLine
+abbrev pub objects_line : Certificate → CertLine
 objects_line c = record { word = Objects; numbers = pos (length c.order) ∷ [] }
 
-abbrev order_line : Certificate → CertLine
+abbrev pub order_line : Certificate → CertLine
 order_line c = record { word = OrderLine; numbers = numbers_of_order c.order }
 
-abbrev value_line : Certificate → CertLine
+abbrev pub value_line : Certificate → CertLine
 value_line c = record { word = Value; numbers = c.value ∷ [] }
 
-abbrev bound_line : Certificate → CertLine
+abbrev pub bound_line : Certificate → CertLine
 bound_line c = record { word = Bound; numbers = c.bound ∷ [] }
 
-abbrev cuts_line : CertLine
+abbrev pub cuts_line : CertLine
 cuts_line = record { word = Cuts; numbers = pos 0 ∷ [] }
 
-abbrev leaf_line : CertLine
+abbrev pub leaf_line : CertLine
 leaf_line = record { word = Leaf; numbers = pos 1 ∷ pos 0 ∷ [] }
 
-abbrev end_line : CertLine
+abbrev pub end_line : CertLine
 end_line = record { word = End; numbers = [] }
+
+-- each line of a true certificate may be written
+
+pub version_written : IsWritten version_line
+version_written = written version_line refl (omega arith)
+
+pub cuts_written : IsWritten cuts_line
+cuts_written = written cuts_line refl (omega arith)
+
+pub leaf_written : IsWritten leaf_line
+leaf_written = written leaf_line refl (omega arith)
+
+pub end_written : IsWritten end_line
+end_written = written end_line refl (omega arith)
 
 module _ (C : Matrix) (weights : IsWeights C) (c : Certificate) (holds : IsTreeCertificate C c) where
   size_is : length c.order ≡ C.size
@@ -153,32 +167,19 @@ module _ (C : Matrix) (weights : IsWeights C) (c : Certificate) (holds : IsTreeC
   below : (p : ℕ) → p < length c.order → get_or c.order p 0 < C.size
   below p h = holds.order_is.below p (omega (arith, size_is))
 
-  -- each line of the certificate may be written
-  objects_written : IsWritten (objects_line c)
+  pub objects_written : IsWritten (objects_line c)
   objects_written = written (objects_line c) (lt-ltb (length c.order) (2 ^ 63) (omega (arith, weights.within_limit, size_is))) (omega arith)
 
-  order_written : IsWritten (order_line c)
+  pub order_written : IsWritten (order_line c)
   order_written =
       let counts = counts-order C.size c.order weights.within_limit below in
       written (order_line c) (row-order c.order (omega (arith, weights.positive, size_is)) counts) (omega (arith, length-map c.order (λ a. pos (a + 1)), weights.within_limit, size_is))
 
-  value_written : IsWritten (value_line c)
+  pub value_written : IsWritten (value_line c)
   value_written = written (value_line c) (lt-ltb (nat_abs c.value) (2 ^ 63) holds.value_fits) (omega arith)
 
-  bound_written : IsWritten (bound_line c)
+  pub bound_written : IsWritten (bound_line c)
   bound_written = written (bound_line c) (lt-ltb (nat_abs c.bound) (2 ^ 63) holds.bound_fits) (omega arith)
-
-  version_written : IsWritten version_line
-  version_written = written version_line refl (omega arith)
-
-  cuts_written : IsWritten cuts_line
-  cuts_written = written cuts_line refl (omega arith)
-
-  leaf_written : IsWritten leaf_line
-  leaf_written = written leaf_line refl (omega arith)
-
-  end_written : IsWritten end_line
-  end_written = written end_line refl (omega arith)
 
   -- the lines from each step on
   abbrev from_end : List TextLine

@@ -1,7 +1,7 @@
 -- A line and its one spelling.
-use Rattle.std.proofs.Common.{◌≡◌, ℕ, ◌+◌, ◌-◌, ◌*◌, ◌^◌, ◌<◌, ◌≤◌, zero, suc, Bool, true, false, not, ◌&&◌, ◌==◌, cond, List, [], ◌∷◌, ◌++◌, length, map, nat_lt, ℤ, pos, negsuc, nat_abs, Option, None, Some, refl, sym, ◌∙◌, ap, subst, arith, rules}
+use Rattle.std.proofs.Common.{◌≡◌, ℕ, ◌+◌, ◌*◌, ◌^◌, ◌≤◌, zero, suc, Bool, true, false, not, ◌==◌, cond, List, [], ◌∷◌, ◌++◌, length, map, ℤ, pos, negsuc, nat_abs, Option, None, Some, refl, sym, ◌∙◌, ap, arith}
 use Rattle.std.specs.Fmt.{signed_decimal}
-use Rattle.std.specs.List.{list_all, flat_map, slice_split, join_with_byte, All}
+use Rattle.std.specs.List.{list_all, flat_map, join_with_byte, All}
 use Rattle.std.specs.Str.{bytes_eq}
 use Rattle.std.proofs.lemmas.Bool.{and_parts, and_from, false≢true, not-true, ltb-true}
 use Rattle.std.proofs.lemmas.List.{append-nil, length-append}
@@ -10,7 +10,7 @@ use Rattle.std.proofs.lemmas.List.Splits.{join_with_byte-slice_split, slice_spli
 use Rattle.std.proofs.lemmas.Slice.Eq.{bytes_eq-Decides}
 use Rattle.lop_certtext.specs.declared.word.CertWord.{CertWord}
 use Rattle.lop_certtext.specs.declared.word.CertWord.TheVariants.{Version, Objects, OrderLine, Value, Bound, Cuts, Dicycle, Fence, Ladder, SplitLine, Leaf, End}
-use Rattle.lop_certtext.specs.Line.{CertLine, word_text, is_count, is_signed, is_row, line_text, number_of, numbers_of, first_word, cert_words, row_of, pieces_reading, line_reading}
+use Rattle.lop_certtext.specs.Line.{CertLine, word_text, is_count, is_signed, is_row, line_text, numbers_of, first_word, cert_words, row_of, pieces_reading, line_reading}
 use Rattle.lop_certtext.specs.Reading.{pieces, number_word}
 use Rattle.lop_certtext.proofs.Numbers.{is_free, number_free, signed_decimals-numbers_of, numbers_of-signed_decimals, length-number_words}
 

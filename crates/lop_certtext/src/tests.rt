@@ -1,6 +1,7 @@
 // Lines that are read and written, and texts that are no lines.
 use crate::{CertWord, NumberRoom, Spelling, is_row, put_line, read_line};
 use lop_desk::TextRoom;
+use std::process::Abort;
 use std::test::Fail;
 
 #[test]
@@ -35,15 +36,27 @@ fn lines_read_and_written(rt: HostRuntime) -> Result<(), Fail> {
     let mut room = NumberRoom::new(rt.alloc())?;
     let mut text = TextRoom::new(rt.alloc())?;
     for (line, word, numbers) in lines {
-        assert!(rt; line.len() < 100 && numbers.len() < 10);
-        assert_eq!(rt; read_line(line, &mut room), Ok(word));
-        assert_eq!(rt; room.numbers(), numbers);
-        if is_row(word, numbers) {
-            put_line(word, numbers, &mut text);
-        }
-        assert_eq!(rt; text.bytes().strip_suffix(b"\n"), Some(line));
+        round_trip(&rt, line, word, numbers, &mut room, &mut text);
     }
     Ok(())
+}
+
+// The line is read as the word and the numbers, and these are written as the line.
+fn round_trip(
+    rt: &impl Abort,
+    line: &[u8],
+    word: CertWord,
+    numbers: &[i64],
+    room: &mut NumberRoom,
+    text: &mut TextRoom,
+) {
+    assert!(rt; line.len() < 100);
+    assert_eq!(rt; read_line(line, room), Ok(word));
+    assert_eq!(rt; room.numbers(), numbers);
+    assert!(rt; numbers.len() < 10);
+    assert!(rt; is_row(word, numbers));
+    put_line(word, numbers, text);
+    assert_eq!(rt; text.bytes().strip_suffix(b"\n"), Some(line));
 }
 
 #[test]
@@ -88,10 +101,15 @@ fn texts_that_are_no_lines(rt: HostRuntime) -> Result<(), Fail> {
     ];
     let mut room = NumberRoom::new(rt.alloc())?;
     for text in texts {
-        assert!(rt; text.len() < 100);
-        assert_eq!(rt; read_line(b"order 1 2", &mut room), Ok(CertWord::OrderLine));
-        assert_eq!(rt; read_line(text, &mut room), Err(Spelling));
-        assert!(rt; room.numbers().is_empty());
+        refused(&rt, text, &mut room);
     }
     Ok(())
+}
+
+// The text is no line, and the room is empty then, whatever was read before.
+fn refused(rt: &impl Abort, text: &[u8], room: &mut NumberRoom) {
+    assert!(rt; text.len() < 100);
+    assert_eq!(rt; read_line(b"order 1 2", room), Ok(CertWord::OrderLine));
+    assert_eq!(rt; read_line(text, room), Err(Spelling));
+    assert!(rt; room.numbers().is_empty());
 }

@@ -1,6 +1,5 @@
-use Rattle.std.proofs.Common.{◌≡◌, ◌∙◌, Bool, List, ℤ, true, false, Some, None, Option, MatchOption, ap, sym, subst, arith}
-use Rattle.lop_certtext.specs.declared.word.CertWord.{CertWord}
-use Rattle.lop_certtext.specs.Line.{CertLine, is_row, line_reading, first_word, cert_words}
+use Rattle.std.proofs.Common.{◌≡◌, ◌∙◌, List, ℤ, true, false, Some, None, ap, sym, arith}
+use Rattle.lop_certtext.specs.Line.{is_row, line_reading}
 use Rattle.lop_certtext.proofs.Steps.{pieces-first, pieces-more, line_reading-no_word, line_reading-no_numbers, line_reading-numbers, line_reading-alone}
 use Rattle.lop_certtext.proofs.read.read_pieces.Goals as goal
 use Rattle.lop_certtext.proofs.read.read_pieces.Goals.{else-len-bytes-via-then-len-bytes+else-not-read_numbers, else-len-bytes-via-else-len-bytes}

@@ -1,5 +1,4 @@
 use Rattle.std.proofs.Common.{◌≡◌, length, take, get_or, ap, pos, ℤ, FitsSigned, w64, to_z, of_z, arith, rules}
-use Rattle.std.specs.Fmt.{signed_decimal}
 use Rattle.std.specs.List.{flat_map}
 use Rattle.std.proofs.lemmas.Int.{to_z-of_z}
 use Rattle.std.proofs.lemmas.List.{length-append}

@@ -26,7 +26,9 @@ pub fn rejected(line: u64, reason: Reason) -> Verdict
 }
 
 impl Reading {
-    pub fn new(alloc: Global) -> Result<Reading, AllocError> {
+    pub fn new(alloc: Global) -> Result<Reading, AllocError>
+        ensures { IfOk result (λ r. (r.lines ≡ record { count = 0; pending = []; line = [] }) × (r.numbers ≡ [])) }
+    {
         let lines = LineReader::new(alloc)?;
         let numbers = NumberRoom::new(alloc)?;
         Ok(Reading { lines, numbers })

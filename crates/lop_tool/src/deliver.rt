@@ -40,7 +40,8 @@ fn keep<D: Desk>(
 {
     match command {
         Command::Solve {
-            cert: Some(name), ..
+            cert: Some(name),
+            ..
         } => match reply {
             Reply::Solved(x) => write_certificate(x, name.text(), desk, room),
             Reply::Refused(_) | Reply::Checked(_) => Ok(()),

@@ -166,7 +166,10 @@ fn certificates(rt: HostRuntime) -> Result<(), Fail> {
     ];
     for (certificate, ends, printed) in cases {
         let mut memory = desk_with_certificate(alloc, certificate)?;
-        assert_eq!(rt; status(alloc, &["check", "lolib", "a", "c"], &mut memory)?, ends);
+        assert_eq!(rt;
+            status(alloc, &["check", "lolib", "a", "c"], &mut memory)?,
+            ends
+        );
         assert_eq!(rt; memory.printed(), printed);
     }
     Ok(())
@@ -178,7 +181,10 @@ fn round_trip(rt: HostRuntime) -> Result<(), Fail> {
     let mut memory = desk(alloc, SECTORS, &[], 1000)?;
     let solve = owned(alloc, &["solve", "lolib", "a", "--cert", "c"])?;
     let check = owned(alloc, &["check", "lolib", "a", "c"])?;
-    assert_eq!(rt; solve_then_check(alloc, &solve, &check, &mut memory), (6, 6));
+    assert_eq!(rt;
+        solve_then_check(alloc, &solve, &check, &mut memory),
+        (6, 6)
+    );
     let written = b"lopcert 1\nobjects 3\norder 1 2 3\nvalue 10\nbound 12\ncuts 0\nleaf 1 0\nend\n";
     assert_eq!(rt; memory.file("c"), Some(written.as_slice()));
     let mut failing = desk(alloc, SECTORS, &[8], 1000)?;

@@ -39,7 +39,10 @@ pub enum Command {
         cert: Option<NameWord>,
     },
     /// Check the certificate against the file.
-    Check { file: NameWord, cert: NameWord },
+    Check {
+        file: NameWord,
+        cert: NameWord,
+    },
 }
 
 /// Why the words are no command.

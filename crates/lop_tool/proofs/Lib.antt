@@ -1,4 +1,9 @@
 pub mod StartLemmas
 pub mod Printed
+pub mod Written
+pub mod LineLength
+pub mod CertificateText
+pub mod CheckLemmas
 pub mod Ends
 pub mod Promises
+pub mod Agreement

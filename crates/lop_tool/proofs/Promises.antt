@@ -1,51 +1,304 @@
 -- Each promise of a run, from how it ended.
-use Rattle.std.proofs.Common.{◌≡◌, ◌⊎◌, ℕ, Bool, true, false, cond, Option, None, Some, IfSome, inl, inr, arith}
-use Rattle.lop_desk.specs.World.{World}
+use Rattle.std.proofs.Common.{◌≡◌, ◌⊎◌, ℕ, ◌^◌, ◌<◌, Bool, true, false, cond, List, [], Option, None, Some, IfSome, Result, Ok, Err, ℤ, pos, negsuc, neg_ℤ, ◌≤ℤ◌, inl, inr, refl, sym, ◌∙◌, ap, subst, arith}
+use Rattle.std.specs.Prelude.{nat_abs}
+use Rattle.std.proofs.lemmas.Int.{ints}
+use Rattle.lop_desk.specs.World.{World, file_named}
+use Rattle.lop_desk.specs.Causes.{Rose}
+use Rattle.lop_desk.specs.Desk.{IsMissing}
+use Rattle.lop_model.specs.Matrix.{Matrix}
+use Rattle.lop_model.proofs.MatrixLemmas.{weight_within}
+use Rattle.lop_model.proofs.BoundLemmas.{pair_bound_within}
+use Rattle.lop_certtext.specs.declared.reason.Reason.{Reason}
+use Rattle.lop_certtext.specs.Certificate.{IsTreeCertificate}
+use Rattle.lop_certtext.specs.Answer.{CheckAnswer, accepted, rejected, too_long, check_answer}
 use Rattle.lop_tool.specs.declared.words.Command.{Command}
-use Rattle.lop_tool.specs.declared.words.Command.TheVariants.{Solve}
-use Rattle.lop_tool.specs.declared.reply.Refusal.TheVariants.{Words, Input}
-use Rattle.lop_tool.specs.declared.reply.Reply.TheVariants.{Refused, Solved}
+use Rattle.lop_tool.specs.declared.words.Command.TheVariants.{Solve, Check}
+use Rattle.lop_tool.specs.declared.reply.InputRefusal.{InputRefusal}
+use Rattle.lop_tool.specs.declared.reply.Refusal.{Refusal}
+use Rattle.lop_tool.specs.declared.reply.Refusal.TheVariants.{Words, Input, LongCertificate}
 use Rattle.lop_tool.specs.declared.reply.Solution.{Solution}
+use Rattle.lop_tool.specs.declared.reply.Outcome.{Outcome}
+use Rattle.lop_tool.specs.declared.reply.Outcome.TheVariants.{Accepted, Rejected}
+use Rattle.lop_tool.specs.declared.reply.Reply.{Reply}
+use Rattle.lop_tool.specs.declared.reply.Reply.TheVariants.{Refused, Solved, Checked}
 use Rattle.lop_tool.specs.AnswerText.{is_optimal}
-use Rattle.lop_tool.specs.Reply.{solved_status, refusal_line, solution_text}
-use Rattle.lop_tool.specs.Run.{Ended, replied, cut_off, faulted, lacked, Answers, PrintsOnly, Solves}
+use Rattle.lop_tool.specs.Input.{input_named, reading_of}
+use Rattle.lop_tool.specs.Reply.{IsSolution, reply_status, outcome_status, outcome_text, refusal_line}
+use Rattle.lop_tool.specs.Run.{Ended, replied, cut_off, faulted, lacked, Answers, Faulted, PrintsOnly, IsChecked, IsBounded, IsRejection, IsRejected, IsRefused, PrintsRejection, PrintsRefusal, answer_of, certificate_of, ExactlyWhere, SolvesFile, AcceptsCertificate, Accepts, EndsBy, IsComplete, Refuses, input_file}
 
--- a solved file ends with 0 or 6
+-- ---- statuses
+
+-- two numbers that are the same give 0, others 6
 solved_is : (b : Bool) (status : ℕ) → status ≡ cond b 0 6 → (status ≡ 0) ⊎ (status ≡ 6)
 solved_is true status is = inl is
 solved_is false status is = inr is
 
-not_two : (b : Bool) (status : ℕ) → status ≡ cond b 0 6 → status ≡ 2 → ⊥
-not_two true status is two = omega arith
-not_two false status is two = omega arith
+not_solved : (status : ℕ) → 0 < status → status < 6 → (status ≡ 0) ⊎ (status ≡ 6) → ⊥
+not_solved status some less (inl is) = omega arith
+not_solved status some less (inr is) = omega arith
 
-solves_by : (command : Option Command) (w : World) (new : Option World) (x : Solution) (status : ℕ) → Answers command (Some w) (Solved x) → status ≡ solved_status x.answer.value x.answer.bound → PrintsOnly (Some w) new (solution_text x) → Solves command w (Some w) new status
-solves_by None w new x status answers is prints = absurd cc
-solves_by (Some (Solve file)) w new x status (solution, input) is prints = record {
-  weights = x.weights;
-  order = x.order;
-  value = x.answer.value;
-  bound = x.answer.bound;
-  nodes = x.answer.nodes;
-  accepted = input;
-  solution = solution;
+solved_not : (b : Bool) (status k : ℕ) → status ≡ cond b 0 6 → 0 < k → k < 6 → status ≡ k → ⊥
+solved_not true status k is some less same = omega arith
+solved_not false status k is some less same = omega arith
+
+-- ---- a solution and its certificate
+
+in_64_bits : (x m : ℤ) → x ≤ℤ m → neg_ℤ m ≤ℤ x → m ≤ℤ pos (10 ^ 18) → nat_abs x < 2 ^ 63
+in_64_bits (pos n) m high low most = omega (arith, ints)
+in_64_bits (negsuc n) m high low most = omega (arith, ints)
+
+tree_certificate : (x : Solution) → IsSolution x.weights x.order x.answer.value x.answer.bound x.answer.nodes → IsTreeCertificate x.weights (certificate_of x)
+tree_certificate x so =
+    let weighs = weight_within x.weights x.order so.order in
+    let bounds = pair_bound_within x.weights [] in record {
+      order_is = so.order;
+      value_is = so.value_is;
+      value_fits = rw so.value_is (in_64_bits _ _ weighs.0 weighs.1 so.weights.bounded_sum);
+      bound_fits = rw so.bound_is (in_64_bits _ _ bounds.0 bounds.1 so.weights.bounded_sum);
+      certified = rw so.bound_is (omega (arith, ints));
+    }
+
+-- ---- what is known of a certificate is known for sure
+
+same_answer : (file cert : List ℕ) (w : World) (C D : Matrix) (a b : CheckAnswer) → IsChecked file cert w C a → IsChecked file cert w D b → a ≡ b
+same_answer file cert w C D a b first second =
+    let same : C ≡ D = cc (first.accepted_file, second.accepted_file) in
+    let read : first.bytes ≡ second.bytes = cc (first.there, second.there) in
+    sym first.answer_is ∙ ap (λ (x : Matrix). check_answer x first.bytes) same ∙ ap (check_answer D) read ∙ second.answer_is
+
+rejected_status : (o : Outcome) (line : ℕ) (reason : Reason) → answer_of o ≡ rejected line reason → outcome_status o ≡ 1
+rejected_status (Accepted value bound) line reason is = absurd cc
+rejected_status (Rejected l r) line reason is = refl
+
+not_long : (o : Outcome) → answer_of o ≡ too_long → ⊥
+not_long (Accepted value bound) is = cc
+not_long (Rejected l r) is = cc
+
+outcome_not : (o : Outcome) (status k : ℕ) → status ≡ outcome_status o → 1 < k → k < 6 → status ≡ k → ⊥
+outcome_not (Accepted value bound) status k is some less same = solved_not (is_optimal value bound) status k is (omega arith) less same
+outcome_not (Rejected line reason) status k is some less same = omega arith
+
+ends_by : (o : Outcome) (status : ℕ) → status ≡ outcome_status o → EndsBy (answer_of o) status
+ends_by (Accepted value bound) status is = inl is
+ends_by (Rejected line reason) status is = inl is
+
+accepts_by : (file cert : List ℕ) (w : World) (old new : Option World) (status : ℕ) (C : Matrix) (o : Outcome) → IsBounded C o → IsChecked file cert w C (answer_of o) → status ≡ outcome_status o → PrintsOnly old new (outcome_text o)
+    → (status ≡ 0) ⊎ (status ≡ 6) → Accepts file cert w old new status
+accepts_by file cert w old new status C (Accepted value bound) bounds checked is prints ends = record {
+  weights = C;
+  value = value;
+  bound = bound;
+  checked = checked;
+  weighed = bounds.0;
+  bounds = bounds.1;
   status_is = is;
   text = prints;
 }
+accepts_by file cert w old new status C (Rejected line reason) bounds checked is prints ends = absurd (not_solved status (omega arith) (omega arith) ends)
 
-pub solves : (command : Option Command) (old new : Option World) (before now status : ℕ) → Ended command old new before now status → IfSome old (λ w. (status ≡ 0) ⊎ (status ≡ 6) → Solves command w old new status)
+rejects_by : (file cert : List ℕ) (w : World) (old new : Option World) (status : ℕ) (C : Matrix) (o : Outcome) → IsChecked file cert w C (answer_of o) → status ≡ outcome_status o → PrintsOnly old new (outcome_text o) → status ≡ 1
+    → PrintsRejection (Some (Check file cert)) w old new
+rejects_by file cert w old new status C (Accepted value bound) checked is prints one = absurd (solved_not (is_optimal value bound) status 1 is (omega arith) (omega arith) one)
+rejects_by file cert w old new status C (Rejected line reason) checked is prints one = (line, reason, record { weights = C; checked = checked }, prints)
+
+-- ---- the clauses
+
+pub solves : (command : Option Command) (old new : Option World) (before now status : ℕ) → Ended command old new before now status → IfSome old (λ w. SolvesFile command w old new status)
 solves command None new before now status ended = tt
-solves command (Some w) new before now status (replied (Solved x) answers is prints) = λ _. solves_by command w new x status answers is prints
-solves command (Some w) new before now status (replied (Refused Words) answers is prints) = λ ends. absurd (omega arith)
-solves command (Some w) new before now status (replied (Refused (Input r)) answers is prints) = λ ends. absurd (omega arith)
-solves command (Some w) new before now status (cut_off reply n is fault answers prints) = λ ends. absurd (omega arith)
-solves command (Some w) new before now status (faulted is fault leaves) = λ ends. absurd (omega arith)
-solves command (Some w) new before now status (lacked is leaves) = λ ends. absurd (omega arith)
+solves None (Some w) new before now status ended = tt
+solves (Some (Check file cert)) (Some w) new before now status ended = tt
+solves (Some (Solve file cert)) (Some w) new before now status (replied (Solved x) answers is left) = λ _. record {
+  solved = x;
+  accepted_file = answers.1;
+  solution = answers.0;
+  certificate = tree_certificate x answers.0;
+  status_is = is;
+  left = left;
+}
+solves (Some (Solve file cert)) (Some w) new before now status (replied (Checked x) answers is left) = λ _. absurd answers
+solves (Some (Solve file cert)) (Some w) new before now status (replied (Refused Words) answers is left) = λ _. absurd answers
+solves (Some (Solve file cert)) (Some w) new before now status (replied (Refused LongCertificate) answers is left) = λ _. absurd answers
+solves (Some (Solve file cert)) (Some w) new before now status (replied (Refused (Input r)) answers is left) = λ ends. absurd (not_solved status (omega arith) (omega arith) ends)
+solves (Some (Solve file cert)) (Some w) new before now status (cut_off reply n is fault answers left) = λ ends. absurd (not_solved status (omega arith) (omega arith) ends)
+solves (Some (Solve file cert)) (Some w) new before now status (faulted is fault leaves) = λ ends. absurd (not_solved status (omega arith) (omega arith) ends)
+solves (Some (Solve file cert)) (Some w) new before now status (lacked is leaves) = λ ends. absurd (not_solved status (omega arith) (omega arith) ends)
+
+pub checks : (command : Option Command) (old new : Option World) (before now status : ℕ) → Ended command old new before now status → IfSome old (λ w. AcceptsCertificate command w old new status)
+checks command None new before now status ended = tt
+checks None (Some w) new before now status ended = tt
+checks (Some (Solve file cert)) (Some w) new before now status ended = tt
+checks (Some (Check file cert)) (Some w) new before now status (replied (Checked x) answers is left) = accepts_by file cert w (Some w) new status x.weights x.outcome answers.0 answers.1 is left
+checks (Some (Check file cert)) (Some w) new before now status (replied (Solved x) answers is left) = λ _. absurd answers
+checks (Some (Check file cert)) (Some w) new before now status (replied (Refused Words) answers is left) = λ _. absurd answers
+checks (Some (Check file cert)) (Some w) new before now status (replied (Refused LongCertificate) answers is left) = λ ends. absurd (not_solved status (omega arith) (omega arith) ends)
+checks (Some (Check file cert)) (Some w) new before now status (replied (Refused (Input r)) answers is left) = λ ends. absurd (not_solved status (omega arith) (omega arith) ends)
+checks (Some (Check file cert)) (Some w) new before now status (cut_off reply n is fault answers left) = λ ends. absurd (not_solved status (omega arith) (omega arith) ends)
+checks (Some (Check file cert)) (Some w) new before now status (faulted is fault leaves) = λ ends. absurd (not_solved status (omega arith) (omega arith) ends)
+checks (Some (Check file cert)) (Some w) new before now status (lacked is leaves) = λ ends. absurd (not_solved status (omega arith) (omega arith) ends)
 
 pub usage_line : (command : Option Command) (old new : Option World) (before now status : ℕ) → Ended command old new before now status → status ≡ 2 → PrintsOnly old new (refusal_line Words)
-usage_line command old new before now status (replied (Solved x) answers is prints) two = absurd (not_two (is_optimal x.answer.value x.answer.bound) status is two)
-usage_line command old new before now status (replied (Refused Words) answers is prints) two = prints
-usage_line command old new before now status (replied (Refused (Input r)) answers is prints) two = absurd (omega arith)
-usage_line command old new before now status (cut_off reply n is fault answers prints) two = absurd (omega arith)
+usage_line command old new before now status (replied (Solved x) answers is left) two = absurd (solved_not (is_optimal x.answer.value x.answer.bound) status 2 is (omega arith) (omega arith) two)
+usage_line command old new before now status (replied (Checked x) answers is left) two = absurd (outcome_not x.outcome status 2 is (omega arith) (omega arith) two)
+usage_line command old new before now status (replied (Refused Words) answers is left) two = left
+usage_line command old new before now status (replied (Refused LongCertificate) answers is left) two = absurd (omega arith)
+usage_line command old new before now status (replied (Refused (Input r)) answers is left) two = absurd (omega arith)
+usage_line command old new before now status (cut_off reply n is fault answers left) two = absurd (omega arith)
 usage_line command old new before now status (faulted is fault leaves) two = absurd (omega arith)
 usage_line command old new before now status (lacked is leaves) two = absurd (omega arith)
+
+solve_not_one : (file : List ℕ) (cert : Option (List ℕ)) (w : World) (reply : Reply) (status : ℕ) → Answers (Some (Solve file cert)) (Some w) reply → status ≡ reply_status reply → status ≡ 1 → ⊥
+solve_not_one file cert w (Solved x) status answers is one = solved_not (is_optimal x.answer.value x.answer.bound) status 1 is (omega arith) (omega arith) one
+solve_not_one file cert w (Checked x) status answers is one = answers
+solve_not_one file cert w (Refused Words) status answers is one = answers
+solve_not_one file cert w (Refused LongCertificate) status answers is one = answers
+solve_not_one file cert w (Refused (Input r)) status answers is one = omega arith
+
+words_not_one : (reply : Reply) (status : ℕ) → reply ≡ Refused Words → status ≡ reply_status reply → status ≡ 1 → ⊥
+words_not_one reply status answers is one = let two : status ≡ 2 = is ∙ ap reply_status answers in omega arith
+
+pub rejection_line : (command : Option Command) (old new : Option World) (before now status : ℕ) → Ended command old new before now status → IfSome old (λ w. status ≡ 1 → PrintsRejection command w old new)
+rejection_line command None new before now status ended = tt
+rejection_line command (Some w) new before now status (cut_off reply n is fault answers left) = λ one. absurd (omega arith)
+rejection_line command (Some w) new before now status (faulted is fault leaves) = λ one. absurd (omega arith)
+rejection_line command (Some w) new before now status (lacked is leaves) = λ one. absurd (omega arith)
+rejection_line None (Some w) new before now status (replied reply answers is left) = λ one. absurd (words_not_one reply status answers is one)
+rejection_line (Some (Solve file cert)) (Some w) new before now status (replied reply answers is left) = λ one. absurd (solve_not_one file cert w reply status answers is one)
+rejection_line (Some (Check file cert)) (Some w) new before now status (replied (Checked x) answers is left) = rejects_by file cert w (Some w) new status x.weights x.outcome answers.1 is left
+rejection_line (Some (Check file cert)) (Some w) new before now status (replied (Solved x) answers is left) = λ one. absurd answers
+rejection_line (Some (Check file cert)) (Some w) new before now status (replied (Refused Words) answers is left) = λ one. absurd answers
+rejection_line (Some (Check file cert)) (Some w) new before now status (replied (Refused LongCertificate) answers is left) = λ one. absurd (omega arith)
+rejection_line (Some (Check file cert)) (Some w) new before now status (replied (Refused (Input r)) answers is left) = λ one. absurd (omega arith)
+
+-- a reply, or one of the two other ends
+reply_or : (command : Option Command) (old new : Option World) (before now status : ℕ) → Ended command old new before now status → ((reply : Reply) × Answers command old reply × (status ≡ reply_status reply)) ⊎ (status ≡ 5) ⊎ ((status ≡ 4) × Faulted command old before now)
+reply_or command old new before now status (replied reply answers is left) = inl (reply, answers, is)
+reply_or command old new before now status (cut_off reply n is fault answers left) = inr (inr (is, fault))
+reply_or command old new before now status (faulted is fault leaves) = inr (inr (is, fault))
+reply_or command old new before now status (lacked is leaves) = inr (inl is)
+
+-- the certificate is rejected, so no reply has another status
+rejected_reply : (file cert : List ℕ) (w : World) (reply : Reply) (line : ℕ) (reason : Reason) → Answers (Some (Check file cert)) (Some w) reply → IsRejection file cert w line reason → reply_status reply ≡ 1
+rejected_reply file cert w (Checked x) line reason answers r = rejected_status x.outcome line reason (same_answer file cert w x.weights r.weights (answer_of x.outcome) (rejected line reason) answers.1 r.checked)
+rejected_reply file cert w (Solved x) line reason answers r = absurd answers
+rejected_reply file cert w (Refused Words) line reason answers r = absurd answers
+rejected_reply file cert w (Refused LongCertificate) line reason answers r =
+    let same : too_long ≡ rejected line reason = same_answer file cert w answers.0 r.weights too_long (rejected line reason) answers.1 r.checked in absurd cc
+rejected_reply file cert w (Refused (Input e)) line reason answers r = absurd (cc (answers, r.checked.accepted_file))
+
+pub rejects : (command : Option Command) (old new : Option World) (before now status : ℕ) → Ended command old new before now status → IfSome old (λ w. ExactlyWhere status 1 (IsRejected command w) (Faulted command old before now))
+rejects command None new before now status ended = tt
+rejects command (Some w) new before now status ended = record {
+  only = λ one. let shown = rejection_line command (Some w) new before now status ended one in (shown.0, shown.1, shown.2);
+  always = always command (reply_or command (Some w) new before now status ended);
+}
+  where
+    always : (c : Option Command) → ((reply : Reply) × Answers c (Some w) reply × (status ≡ reply_status reply)) ⊎ (status ≡ 5) ⊎ ((status ≡ 4) × Faulted c (Some w) before now) → IsRejected c w
+        → (status ≡ 1) ⊎ (status ≡ 5) ⊎ ((status ≡ 4) × Faulted c (Some w) before now)
+    always c (inr other) rejection = inr other
+    always None (inl r) rejection = absurd rejection.2
+    always (Some (Solve file cert)) (inl r) rejection = absurd rejection.2
+    always (Some (Check file cert)) (inl r) rejection = inl (r.2 ∙ rejected_reply file cert w r.0 rejection.0 rejection.1 r.1 rejection.2)
+
+pub refusal_line_of : (command : Option Command) (old new : Option World) (before now status : ℕ) → Ended command old new before now status → IfSome old (λ w. status ≡ 3 → PrintsRefusal command w old new)
+refusal_line_of command None new before now status ended = tt
+refusal_line_of command (Some w) new before now status (cut_off reply n is fault answers left) = λ three. absurd (omega arith)
+refusal_line_of command (Some w) new before now status (faulted is fault leaves) = λ three. absurd (omega arith)
+refusal_line_of command (Some w) new before now status (lacked is leaves) = λ three. absurd (omega arith)
+refusal_line_of None (Some w) new before now status (replied reply answers is left) = λ three. let two : status ≡ 2 = is ∙ ap reply_status answers in absurd (omega arith)
+refusal_line_of (Some (Solve file cert)) (Some w) new before now status (replied (Solved x) answers is left) = λ three. absurd (solved_not (is_optimal x.answer.value x.answer.bound) status 3 is (omega arith) (omega arith) three)
+refusal_line_of (Some (Solve file cert)) (Some w) new before now status (replied (Checked x) answers is left) = λ three. absurd answers
+refusal_line_of (Some (Solve file cert)) (Some w) new before now status (replied (Refused Words) answers is left) = λ three. absurd answers
+refusal_line_of (Some (Solve file cert)) (Some w) new before now status (replied (Refused LongCertificate) answers is left) = λ three. absurd answers
+refusal_line_of (Some (Solve file cert)) (Some w) new before now status (replied (Refused (Input r)) answers is left) = λ three. (Input r, answers, left)
+refusal_line_of (Some (Check file cert)) (Some w) new before now status (replied (Solved x) answers is left) = λ three. absurd answers
+refusal_line_of (Some (Check file cert)) (Some w) new before now status (replied (Checked x) answers is left) = λ three. absurd (outcome_not x.outcome status 3 is (omega arith) (omega arith) three)
+refusal_line_of (Some (Check file cert)) (Some w) new before now status (replied (Refused Words) answers is left) = λ three. absurd answers
+refusal_line_of (Some (Check file cert)) (Some w) new before now status (replied (Refused LongCertificate) answers is left) = λ three. (LongCertificate, answers, left)
+refusal_line_of (Some (Check file cert)) (Some w) new before now status (replied (Refused (Input r)) answers is left) = λ three. (Input r, answers, left)
+
+-- the input is refused, so no reply has another status
+refused_input : (command : Command) (w : World) (reply : Reply) (e : InputRefusal) → Answers (Some command) (Some w) reply → input_named w.files (input_file command) ≡ Some (Err e) → reply_status reply ≡ 3
+refused_input (Solve file cert) w (Solved x) e answers is = absurd (cc (answers.1, is))
+refused_input (Solve file cert) w (Checked x) e answers is = absurd answers
+refused_input (Solve file cert) w (Refused Words) e answers is = absurd answers
+refused_input (Solve file cert) w (Refused LongCertificate) e answers is = absurd answers
+refused_input (Solve file cert) w (Refused (Input r)) e answers is = refl
+refused_input (Check file cert) w (Solved x) e answers is = absurd answers
+refused_input (Check file cert) w (Checked x) e answers is = absurd (cc (answers.1.accepted_file, is))
+refused_input (Check file cert) w (Refused Words) e answers is = absurd answers
+refused_input (Check file cert) w (Refused LongCertificate) e answers is = refl
+refused_input (Check file cert) w (Refused (Input r)) e answers is = refl
+
+-- the certificate is too long, so no reply has another status
+long_reply : (file cert : List ℕ) (w : World) (reply : Reply) (C : Matrix) → Answers (Some (Check file cert)) (Some w) reply → IsChecked file cert w C too_long → reply_status reply ≡ 3
+long_reply file cert w (Checked x) C answers checked = absurd (not_long x.outcome (same_answer file cert w x.weights C (answer_of x.outcome) too_long answers.1 checked))
+long_reply file cert w (Solved x) C answers checked = absurd answers
+long_reply file cert w (Refused Words) C answers checked = absurd answers
+long_reply file cert w (Refused LongCertificate) C answers checked = refl
+long_reply file cert w (Refused (Input e)) C answers checked = refl
+
+refused_reply : (command : Command) (w : World) (reply : Reply) (refusal : Refusal) → Answers (Some command) (Some w) reply → Refuses (Some command) w refusal → reply_status reply ≡ 3
+refused_reply command w reply Words answers refuses = absurd refuses
+refused_reply command w reply (Input e) answers refuses = refused_input command w reply e answers refuses
+refused_reply (Solve file cert) w reply LongCertificate answers refuses = absurd refuses
+refused_reply (Check file cert) w reply LongCertificate answers refuses = long_reply file cert w reply refuses.0 answers refuses.1
+
+no_refusal : (w : World) (refusal : Refusal) → Refuses None w refusal → ⊥
+no_refusal w Words refuses = refuses
+no_refusal w (Input e) refuses = cc
+no_refusal w LongCertificate refuses = refuses
+
+pub refuses_of : (command : Option Command) (old new : Option World) (before now status : ℕ) → Ended command old new before now status → IfSome old (λ w. ExactlyWhere status 3 (IsRefused command w) (Faulted command old before now))
+refuses_of command None new before now status ended = tt
+refuses_of command (Some w) new before now status ended = record {
+  only = λ three. let shown = refusal_line_of command (Some w) new before now status ended three in (shown.0, shown.1);
+  always = always command (reply_or command (Some w) new before now status ended);
+}
+  where
+    always : (c : Option Command) → ((reply : Reply) × Answers c (Some w) reply × (status ≡ reply_status reply)) ⊎ (status ≡ 5) ⊎ ((status ≡ 4) × Faulted c (Some w) before now) → IsRefused c w
+        → (status ≡ 3) ⊎ (status ≡ 5) ⊎ ((status ≡ 4) × Faulted c (Some w) before now)
+    always c (inr other) refused = inr other
+    always None (inl r) refused = absurd (no_refusal w refused.0 refused.1)
+    always (Some command) (inl r) refused = inl (r.2 ∙ refused_reply command w r.0 refused.0 r.1 refused.1)
+
+-- ---- no other end
+
+not_missing : (w : World) (name : List ℕ) (input : Result Matrix InputRefusal) → input_named w.files name ≡ Some input → IsMissing (Some w) name → ⊥
+not_missing w name input is missing = let none : input_named w.files name ≡ None = ap reading_of missing in cc
+
+solve_ends : (file : List ℕ) (cert : Option (List ℕ)) (w : World) (C : Matrix) (before now status : ℕ) → input_named w.files file ≡ Some (Ok C) → (Rose before now → ⊥)
+    → ((reply : Reply) × Answers (Some (Solve file cert)) (Some w) reply × (status ≡ reply_status reply)) ⊎ (status ≡ 5) ⊎ ((status ≡ 4) × Faulted (Some (Solve file cert)) (Some w) before now) → (status ≡ 0) ⊎ (status ≡ 6) ⊎ (status ≡ 5)
+solve_ends file cert w C before now status input calm (inl (Solved x, answers, is)) = elim (solved_is (is_optimal x.answer.value x.answer.bound) status is) [ inl zero_is ↦ inl zero_is | inr six ↦ inr (inl six) ]
+solve_ends file cert w C before now status input calm (inl (Checked x, answers, is)) = absurd answers
+solve_ends file cert w C before now status input calm (inl (Refused Words, answers, is)) = absurd answers
+solve_ends file cert w C before now status input calm (inl (Refused LongCertificate, answers, is)) = absurd answers
+solve_ends file cert w C before now status input calm (inl (Refused (Input e), answers, is)) = absurd (cc (answers, input))
+solve_ends file cert w C before now status input calm (inr (inl five)) = inr (inr five)
+solve_ends file cert w C before now status input calm (inr (inr (four, inl (inl missing)))) = absurd (not_missing w file (Ok C) input missing)
+solve_ends file cert w C before now status input calm (inr (inr (four, inl (inr none)))) = absurd none
+solve_ends file cert w C before now status input calm (inr (inr (four, inr rose))) = absurd (calm rose)
+
+want_ends : (a : CheckAnswer) (status : ℕ) → status ≡ 5 → EndsBy a status
+want_ends (accepted value bound) status five = inr five
+want_ends (rejected line reason) status five = inr five
+want_ends too_long status five = inr five
+
+check_ends : (file cert : List ℕ) (w : World) (C : Matrix) (bytes : List ℕ) (before now status : ℕ) → input_named w.files file ≡ Some (Ok C) → file_named w.files cert ≡ Some bytes → (Rose before now → ⊥)
+    → ((reply : Reply) × Answers (Some (Check file cert)) (Some w) reply × (status ≡ reply_status reply)) ⊎ (status ≡ 5) ⊎ ((status ≡ 4) × Faulted (Some (Check file cert)) (Some w) before now) → EndsBy (check_answer C bytes) status
+check_ends file cert w C bytes before now status input there calm (inl (Checked x, answers, is)) =
+    subst (λ (a : CheckAnswer). EndsBy a status) (same_answer file cert w x.weights C (answer_of x.outcome) (check_answer C bytes) answers.1 (record { accepted_file = input; bytes = bytes; there = there; answer_is = refl })) (ends_by x.outcome status is)
+check_ends file cert w C bytes before now status input there calm (inl (Refused LongCertificate, answers, is)) =
+    subst (λ (a : CheckAnswer). EndsBy a status) (same_answer file cert w answers.0 C too_long (check_answer C bytes) answers.1 (record { accepted_file = input; bytes = bytes; there = there; answer_is = refl })) (inl is)
+check_ends file cert w C bytes before now status input there calm (inl (Solved x, answers, is)) = absurd answers
+check_ends file cert w C bytes before now status input there calm (inl (Refused Words, answers, is)) = absurd answers
+check_ends file cert w C bytes before now status input there calm (inl (Refused (Input e), answers, is)) = absurd (cc (answers, input))
+check_ends file cert w C bytes before now status input there calm (inr (inl five)) = want_ends (check_answer C bytes) status five
+check_ends file cert w C bytes before now status input there calm (inr (inr (four, inl (inl missing)))) = absurd (not_missing w file (Ok C) input missing)
+check_ends file cert w C bytes before now status input there calm (inr (inr (four, inl (inr missing)))) = absurd (cc (missing, there))
+check_ends file cert w C bytes before now status input there calm (inr (inr (four, inr rose))) = absurd (calm rose)
+
+pub completes : (command : Option Command) (old new : Option World) (before now status : ℕ) → Ended command old new before now status → IfSome old (λ w. IsComplete command w before now status)
+completes command None new before now status ended = tt
+completes None (Some w) new before now status ended = tt
+completes (Some (Solve file cert)) (Some w) new before now status ended = λ C input calm. solve_ends file cert w C before now status input calm (reply_or (Some (Solve file cert)) (Some w) new before now status ended)
+completes (Some (Check file cert)) (Some w) new before now status ended = λ C bytes input there calm. check_ends file cert w C bytes before now status input there calm (reply_or (Some (Check file cert)) (Some w) new before now status ended)

@@ -3,6 +3,8 @@ use Rattle.std.specs.Prelude.{ℕ, ◌+◌, ◌*◌, ◌/◌, ◌%◌, Bool, ◌
 use Rattle.std.specs.Fmt.{signed_decimal}
 use Rattle.std.specs.List.{flat_map}
 use Rattle.lop_model.specs.Matrix.{Matrix, total}
+use Rattle.lop_certtext.specs.declared.reason.Reason.{Reason}
+use Rattle.lop_certtext.specs.declared.reason.Reason.TheVariants.{Short, Spelling, Size, OrderLine, Value, Cut, SplitLine, Leaf, High, Tail}
 
 -- a word with its blank, and a number
 abbrev pub number_line : List ℕ → ℤ → List ℕ
@@ -56,3 +58,32 @@ figure_lines value bound nodes total =
 -- the answer of `solve` for an order s of the objects of C
 abbrev pub solve_text : Matrix → List ℕ → ℤ → ℤ → ℕ → List ℕ
 solve_text C s value bound nodes = order_lines C.size s value bound ++ figure_lines value bound nodes (total C)
+
+-- whether the certificate's value is shown to be the greatest
+abbrev pub check_status_line : ℤ → ℤ → List ℕ
+check_status_line value bound = if is_optimal value bound then codes "status optimal\n" else codes "status bounded\n"
+
+-- the answer of `check` to a certificate that it accepts
+abbrev pub accepted_text : ℤ → ℤ → List ℕ
+accepted_text value bound =
+    codes "accepted\n" ++ (number_line (codes "value ") value ++ (number_line (codes "bound ") bound ++ check_status_line value bound))
+
+-- a word and the two numbers that differ
+abbrev pub two_numbers : List ℕ → ℤ → ℤ → List ℕ
+two_numbers word first second = word ++ signed_decimal first ++ codes " " ++ signed_decimal second
+
+abbrev pub reason_text : Reason → List ℕ
+reason_text Short = codes "short"
+reason_text Spelling = codes "spelling"
+reason_text Size = codes "size"
+reason_text OrderLine = codes "order"
+reason_text (Value stated found) = two_numbers (codes "value ") stated found
+reason_text Cut = codes "cut"
+reason_text SplitLine = codes "split"
+reason_text Leaf = codes "leaf"
+reason_text (High upper limit) = two_numbers (codes "high ") upper limit
+reason_text Tail = codes "tail"
+
+-- the answer of `check` to a certificate that it rejects
+abbrev pub rejected_line : ℕ → Reason → List ℕ
+rejected_line line reason = codes "rejected line " ++ decimal line ++ codes " " ++ reason_text reason ++ codes "\n"

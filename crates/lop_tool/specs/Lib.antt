@@ -3,5 +3,9 @@ pub mod WordsFault
 pub mod StartOrder
 pub mod AnswerText
 pub mod Input
+pub mod Stops
 pub mod Reply
 pub mod Run
+pub mod CheckSteps
+pub mod Keeping
+pub mod Both

@@ -1,17 +1,19 @@
 -- What a run replies.
 use Rattle.std.specs.Prelude.{◌≡◌, ℕ, ◌^◌, List, [], length, ◌++◌, codes, ℤ, pos, ◌≤ℤ◌, if◌then◌else◌}
 use Rattle.lop_model.specs.Order.{IsOrder}
-use Rattle.lop_model.specs.Matrix.{Matrix, weight, IsUpperBound}
+use Rattle.lop_model.specs.Matrix.{Matrix, IsWeights, weight, IsUpperBound}
 use Rattle.lop_model.specs.Bound.{pair_bound}
 use Rattle.lop_tool.specs.declared.reply.Solution.{Solution}
+use Rattle.lop_tool.specs.declared.reply.Outcome.{Outcome}
+use Rattle.lop_tool.specs.declared.reply.Outcome.TheVariants.{Accepted, Rejected}
 use Rattle.lop_tool.specs.declared.reply.InputRefusal.{InputRefusal}
 use Rattle.lop_tool.specs.declared.reply.InputRefusal.TheVariants.{TooLong, Lolib}
 use Rattle.lop_tool.specs.declared.reply.Refusal.{Refusal}
-use Rattle.lop_tool.specs.declared.reply.Refusal.TheVariants.{Words, Input}
+use Rattle.lop_tool.specs.declared.reply.Refusal.TheVariants.{Words, Input, LongCertificate}
 use Rattle.lop_tool.specs.declared.reply.Reply.{Reply}
-use Rattle.lop_tool.specs.declared.reply.Reply.TheVariants.{Refused, Solved}
+use Rattle.lop_tool.specs.declared.reply.Reply.TheVariants.{Refused, Solved, Checked}
 use Rattle.lop_tool.specs.StartOrder.{IsBeckerOrder}
-use Rattle.lop_tool.specs.AnswerText.{is_optimal, solve_text}
+use Rattle.lop_tool.specs.AnswerText.{is_optimal, solve_text, accepted_text, rejected_line}
 
 abbrev pub input_refusal_word : InputRefusal → List ℕ
 input_refusal_word TooLong = codes "too-long"
@@ -20,6 +22,7 @@ input_refusal_word Lolib = codes "lolib"
 abbrev pub refusal_word : Refusal → List ℕ
 refusal_word Words = codes "words"
 refusal_word (Input refusal) = input_refusal_word refusal
+refusal_word LongCertificate = codes "certificate-too-long"
 
 abbrev pub refusal_line : Refusal → List ℕ
 refusal_line refusal = codes "refused " ++ refusal_word refusal ++ codes "\n"
@@ -27,6 +30,7 @@ refusal_line refusal = codes "refused " ++ refusal_word refusal ++ codes "\n"
 abbrev pub refusal_status : Refusal → ℕ
 refusal_status Words = 2
 refusal_status (Input refusal) = 3
+refusal_status LongCertificate = 3
 
 abbrev pub solution_text : Solution → List ℕ
 solution_text x = solve_text x.weights x.order x.answer.value x.answer.bound x.answer.nodes
@@ -35,17 +39,29 @@ solution_text x = solve_text x.weights x.order x.answer.value x.answer.bound x.a
 abbrev pub solved_status : ℤ → ℤ → ℕ
 solved_status value bound = if is_optimal value bound then 0 else 6
 
+abbrev pub outcome_text : Outcome → List ℕ
+outcome_text (Accepted value bound) = accepted_text value bound
+outcome_text (Rejected line reason) = rejected_line line reason
+
+-- 1 where the certificate is rejected
+abbrev pub outcome_status : Outcome → ℕ
+outcome_status (Accepted value bound) = solved_status value bound
+outcome_status (Rejected line reason) = 1
+
 abbrev pub reply_text : Reply → List ℕ
 reply_text (Refused refusal) = refusal_line refusal
 reply_text (Solved x) = solution_text x
+reply_text (Checked x) = outcome_text x.outcome
 
 abbrev pub reply_status : Reply → ℕ
 reply_status (Refused refusal) = refusal_status refusal
 reply_status (Solved x) = solved_status x.answer.value x.answer.bound
+reply_status (Checked x) = outcome_status x.outcome
 
 -- the order is the start order, the value its weight, the bound the pair bound, which no order's weight exceeds;
 -- a node is evaluated only where the two differ
 pub record IsSolution (C : Matrix) (s : List ℕ) (value bound : ℤ) (nodes : ℕ) : Type 0 where
+  pub weights : IsWeights C
   pub order : IsOrder C.size s
   pub start : IsBeckerOrder C s
   pub value_is : value ≡ weight C s
@@ -57,3 +73,4 @@ pub record IsSolution (C : Matrix) (s : List ℕ) (value bound : ℤ) (nodes : �
 abbrev pub IsPrintable : Reply → Type 0
 IsPrintable (Refused refusal) = Unit {0}
 IsPrintable (Solved x) = (length x.order ≡ x.weights.size) × (x.answer.value ≤ℤ pos (2 ^ 63))
+IsPrintable (Checked x) = Unit {0}

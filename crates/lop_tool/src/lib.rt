@@ -1,7 +1,12 @@
 //! The one call that the program makes, and its promises.
 #![tactic(auto)]
 
+mod both;
 mod bound;
+mod certificate;
+mod checking;
+mod deliver;
+mod input;
 mod reply;
 mod report;
 mod solve;
@@ -9,6 +14,7 @@ mod start;
 mod top;
 mod words;
 
+pub use both::solve_then_check;
 pub use top::run;
 
 #[cfg(test)]

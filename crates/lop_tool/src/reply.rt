@@ -2,9 +2,10 @@
 ghost use Rattle.std.specs.Prelude.{◌≡◌, ◌≤◌, length, codes};
 ghost use Rattle.lop_desk.specs.Whole.{PrintsAll};
 ghost use Rattle.lop_desk.specs.Causes.{HasCause};
-ghost use Rattle.lop_tool.specs.Reply.{refusal_word, refusal_line, refusal_status, reply_text, reply_status, IsPrintable};
+ghost use Rattle.lop_tool.specs.Reply.{refusal_word, refusal_line, refusal_status, reply_text, reply_status, outcome_text, outcome_status, solved_status, IsPrintable};
 
-use crate::report::{Answer, print_answer};
+use crate::report::{Answer, print_accepted, print_answer, print_rejected};
+use lop_check::Reason;
 use lop_desk::{Desk, DeskFailed, TextRoom, print_all};
 use lop_model::{Order, Weights};
 
@@ -20,6 +21,8 @@ pub enum InputRefusal {
 pub enum Refusal {
     Words,
     Input(InputRefusal),
+    /// The certificate is longer than the checker reads.
+    LongCertificate,
 }
 
 /// What a file of weights comes to.
@@ -30,11 +33,26 @@ pub struct Solution {
     pub answer: Answer,
 }
 
+/// What a certificate comes to.
+#[derive(Clone, Copy)]
+pub enum Outcome {
+    Accepted { value: i64, bound: i64 },
+    Rejected { line: u64, reason: Reason },
+}
+
+/// What a certificate for these weights comes to.
+#[derive(Drop)]
+pub struct CheckedCertificate {
+    pub weights: Weights,
+    pub outcome: Outcome,
+}
+
 /// What a run replies.
 #[derive(Drop)]
 pub enum Reply {
     Refused(Refusal),
     Solved(Solution),
+    Checked(CheckedCertificate),
 }
 
 /// Why a run has no reply.
@@ -53,6 +71,7 @@ impl Refusal {
             Refusal::Words => b"words",
             Refusal::Input(InputRefusal::TooLong) => b"too-long",
             Refusal::Input(InputRefusal::Lolib) => b"lolib",
+            Refusal::LongCertificate => b"certificate-too-long",
         }
     }
 
@@ -61,9 +80,29 @@ impl Refusal {
     {
         match self {
             Refusal::Words => 2,
-            Refusal::Input(_) => 3,
+            Refusal::Input(_) | Refusal::LongCertificate => 3,
         }
     }
+}
+
+impl Outcome {
+    fn status(self) -> u8
+        ensures { result ≡ outcome_status self }
+    {
+        match self {
+            Outcome::Accepted { value, bound } => {
+                solved_status(i128::from(value), i128::from(bound))
+            }
+            Outcome::Rejected { .. } => 1,
+        }
+    }
+}
+
+/// 0 where value and bound are the same.
+fn solved_status(value: i128, bound: i128) -> u8
+    ensures { result ≡ solved_status value bound }
+{
+    if value == bound { 0 } else { 6 }
 }
 
 impl Reply {
@@ -73,8 +112,8 @@ impl Reply {
     {
         match self {
             Reply::Refused(refusal) => refusal.status(),
-            Reply::Solved(solution) if solution.answer.value == solution.answer.bound => 0,
-            Reply::Solved(_) => 6,
+            Reply::Solved(solution) => solved_status(solution.answer.value, solution.answer.bound),
+            Reply::Checked(checked) => checked.outcome.status(),
         }
     }
 }
@@ -92,6 +131,23 @@ pub fn print_reply<D: Desk>(
     match reply {
         Reply::Refused(refusal) => print_refusal(*refusal, desk, room),
         Reply::Solved(x) => print_answer(&x.answer, &x.order, &x.weights, desk, room),
+        Reply::Checked(x) => print_outcome(x.outcome, desk, room),
+    }
+}
+
+fn print_outcome<D: Desk>(
+    outcome: Outcome,
+    desk: &mut D,
+    room: &mut TextRoom,
+) -> Result<(), DeskFailed>
+    ensures effect { PrintsAll (D.told desk.old) (D.told desk.new) (outcome_text outcome) result }
+    ensures cause { HasCause (D.faults desk.old) (D.faults desk.new) result }
+{
+    match outcome {
+        Outcome::Accepted { value, bound } => {
+            print_accepted(i128::from(value), i128::from(bound), desk, room)
+        }
+        Outcome::Rejected { line, reason } => print_rejected(line, reason, desk, room),
     }
 }
 

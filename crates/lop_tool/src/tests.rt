@@ -1,4 +1,4 @@
-use crate::run;
+use crate::{run, solve_then_check};
 use lop_desk::{MemoryDesk, NamedBytes};
 use std::alloc::Global;
 use std::test::Fail;
@@ -15,12 +15,16 @@ fn desk(alloc: Global, bytes: &[u8], failing: &[u64], room: usize) -> Result<Mem
     Ok(MemoryDesk::new(alloc, files, failing.to_vec(alloc)?, room)?)
 }
 
-fn status(alloc: Global, words: &[&str], desk: &mut MemoryDesk) -> Result<u8, Fail> {
+fn owned(alloc: Global, words: &[&str]) -> Result<Vec<String>, Fail> {
     let mut owned = Vec::new(alloc);
     for word in words {
         owned.push(String::from_str(alloc, word)?)?;
     }
-    Ok(run(alloc, &owned, desk))
+    Ok(owned)
+}
+
+fn status(alloc: Global, words: &[&str], desk: &mut MemoryDesk) -> Result<u8, Fail> {
+    Ok(run(alloc, &owned(alloc, words)?, desk))
 }
 
 #[test]
@@ -66,7 +70,7 @@ fn texts(rt: HostRuntime) -> Result<(), Fail> {
 #[test]
 fn words_that_are_no_command(rt: HostRuntime) -> Result<(), Fail> {
     let alloc = rt.alloc();
-    let cases: [&[&str]; 9] = [
+    let cases: [&[&str]; 13] = [
         &[],
         &["solve"],
         &["solve", "lolib"],
@@ -75,6 +79,10 @@ fn words_that_are_no_command(rt: HostRuntime) -> Result<(), Fail> {
         &["solve", "preflib", "a"],
         &["solve", "lolib", "a", "--workers", "17"],
         &["Solve", "lolib", "a"],
+        &["solve", "lolib", "a", "--cert"],
+        &["solve", "lolib", "a", "--cert", "a"],
+        &["check", "lolib", "a"],
+        &["check", "lolib", "a", "-c"],
         &["--help"],
     ];
     for words in cases {
@@ -111,5 +119,77 @@ fn calls_that_fail(rt: HostRuntime) -> Result<(), Fail> {
     assert_eq!(rt; status(alloc, &["solve", "lolib", "b"], &mut memory)?, 4);
     assert_eq!(rt; memory.printed(), b"".as_slice());
     assert_eq!(rt; memory.faults(), 0);
+    Ok(())
+}
+
+const TIE: &[u8] = b"3\n0 2 0\n0 0 2\n2 0 0\n";
+
+/// A desk with the tie of three under `a` and a certificate under `c`.
+fn desk_with_certificate(alloc: Global, certificate: &[u8]) -> Result<MemoryDesk, Fail> {
+    let mut files = Vec::new(alloc);
+    let file = String::from_str(alloc, "a")?;
+    let cert = String::from_str(alloc, "c")?;
+    files.push(NamedBytes::new(file, TIE.to_vec(alloc)?))?;
+    files.push(NamedBytes::new(cert, certificate.to_vec(alloc)?))?;
+    Ok(MemoryDesk::new(alloc, files, Vec::new(alloc), 1000)?)
+}
+
+#[test]
+fn certificates(rt: HostRuntime) -> Result<(), Fail> {
+    let alloc = rt.alloc();
+    let cases: [(&[u8], u8, &[u8]); 5] = [
+        (
+            b"lopcert 1\nobjects 3\norder 1 2 3\nvalue 4\nbound 6\ncuts 0\nleaf 1 0\nend\n",
+            6,
+            b"accepted\nvalue 4\nbound 6\nstatus bounded\n",
+        ),
+        (
+            b"lopcert 1\nobjects 3\norder 1 2 3\nvalue 4\nbound 5\ncuts 0\nleaf 1 0\nend\n",
+            1,
+            b"rejected line 7 high 6 6\n",
+        ),
+        (
+            b"lopcert 1\nobjects 3\norder 1 2 3\nvalue 04\nbound 6\ncuts 0\nleaf 1 0\nend\n",
+            1,
+            b"rejected line 4 spelling\n",
+        ),
+        (
+            b"lopcert 1\nobjects 3\norder 1 2 3\nvalue 5\nbound 6\ncuts 0\nleaf 1 0\nend\n",
+            1,
+            b"rejected line 4 value 5 4\n",
+        ),
+        (
+            b"lopcert 1\nobjects 3\norder 1 2 3\nvalue 4\nbound 6\ncuts 0\nleaf 1 0\nend\nx\n",
+            1,
+            b"rejected line 9 tail\n",
+        ),
+    ];
+    for (certificate, ends, printed) in cases {
+        let mut memory = desk_with_certificate(alloc, certificate)?;
+        assert_eq!(rt;
+            status(alloc, &["check", "lolib", "a", "c"], &mut memory)?,
+            ends
+        );
+        assert_eq!(rt; memory.printed(), printed);
+    }
+    Ok(())
+}
+
+#[test]
+fn round_trip(rt: HostRuntime) -> Result<(), Fail> {
+    let alloc = rt.alloc();
+    let mut memory = desk(alloc, SECTORS, &[], 1000)?;
+    let solve = owned(alloc, &["solve", "lolib", "a", "--cert", "c"])?;
+    let check = owned(alloc, &["check", "lolib", "a", "c"])?;
+    assert_eq!(rt;
+        solve_then_check(alloc, &solve, &check, &mut memory),
+        (6, 6)
+    );
+    let written = b"lopcert 1\nobjects 3\norder 1 2 3\nvalue 10\nbound 12\ncuts 0\nleaf 1 0\nend\n";
+    assert_eq!(rt; memory.file("c"), Some(written.as_slice()));
+    let mut failing = desk(alloc, SECTORS, &[8], 1000)?;
+    assert_eq!(rt; run(alloc, &solve, &mut failing), 4);
+    assert_eq!(rt; failing.file("c"), None);
+    assert_eq!(rt; failing.printed(), b"".as_slice());
     Ok(())
 }

@@ -1,28 +1,40 @@
 // The top call.
-ghost use Rattle.std.specs.Prelude.{◌≡◌, ◌⊎◌, ◌≤◌, None, map, IfSome, IfOk, IfErr};
+ghost use Rattle.std.specs.Prelude.{◌≡◌, ◌≤◌, None, Some, map, IfSome, IfOk, IfErr};
 ghost use Rattle.std.specs.String.{string_bytes};
 ghost use Rattle.lop_desk.specs.Whole.{OnlyOpens};
 ghost use Rattle.lop_tool.specs.declared.reply.Refusal.TheVariants.{Words};
 ghost use Rattle.lop_tool.specs.Command.{command_of};
 ghost use Rattle.lop_tool.specs.Reply.{refusal_line, IsPrintable};
-ghost use Rattle.lop_tool.specs.Run.{Answers, StopCause, Ended, Faulted, IsStatus, ExactlyWhere, Solves, IsRefused, PrintsRefusal, PrintsOnly, PrintsAtMost, LeavesAll, IsComplete};
+ghost use Rattle.lop_tool.specs.Run.{AnswersCommand, StopCause, Ended, Faulted, ExactlyWhere, SolvesFile, AcceptsCertificate, IsRejected, PrintsRejection, IsRefused, PrintsRefusal, PrintsOnly, LeavesAtMost, LeavesAll, IsComplete};
+ghost use Rattle.lop_tool.specs.Keeping.{CanBeKept};
 
+use crate::checking::check;
+use crate::deliver::deliver;
 use crate::reply::{Refusal, Reply, Stop, print_reply};
 use crate::solve::solve;
 use crate::words::{Command, WordsFault, read_words};
 use lop_desk::{Desk, TextRoom};
 use std::alloc::Global;
 
-/// Does what the words after the program's name ask for, prints the answer and gives the status: 0 solved, with value and
-/// bound equal; 2 no command; 3 an input is refused; 4 a call of the desk failed; 5 memory ran out; 6 solved, with the
-/// bound above the value.
+/// Does what the words after the program's name ask for, prints the answer and gives the status: 0 done, with value and
+/// bound equal; 1 the certificate is rejected; 2 no command; 3 an input is refused; 4 a call of the desk failed; 5 memory
+/// ran out; 6 done, with the bound above the value.
 pub fn run<D: Desk>(alloc: Global, words: &[String], desk: &mut D) -> u8
     ensures later { D.faults desk.old ≤ D.faults desk.new }
-    ensures statuses { IsStatus result }
+    ensures statuses { result ≤ 6 }
 
-    // The printed order is the start order of the file's objects, the value its weight, the bound no order's weight exceeds.
+    // The printed order is the start order of the file's objects, the value its weight, the bound no order's weight
+    // exceeds; the certificate is the text of a true one with these numbers, and no other file changes.
     ensures solves { let command = command_of (map (λ s. string_bytes s) words.now) in
-        IfSome (D.told desk.old) (λ w. (result ≡ 0) ⊎ (result ≡ 6) → Solves command w (D.told desk.old) (D.told desk.new) result) }
+        IfSome (D.told desk.old) (λ w. SolvesFile command w (D.told desk.old) (D.told desk.new) result) }
+
+    // What is accepted bounds every order of the file.
+    ensures checks { let command = command_of (map (λ s. string_bytes s) words.now) in
+        IfSome (D.told desk.old) (λ w. AcceptsCertificate command w (D.told desk.old) (D.told desk.new) result) }
+    ensures rejects { let command = command_of (map (λ s. string_bytes s) words.now) in
+        IfSome (D.told desk.old) (λ w. ExactlyWhere result 1 (IsRejected command w) (Faulted command (D.told desk.old) (D.faults desk.old) (D.faults desk.new))) }
+    ensures rejection_line { let command = command_of (map (λ s. string_bytes s) words.now) in
+        IfSome (D.told desk.old) (λ w. result ≡ 1 → PrintsRejection command w (D.told desk.old) (D.told desk.new)) }
 
     ensures usage { let command = command_of (map (λ s. string_bytes s) words.now) in
         ExactlyWhere result 2 (command ≡ None) (Faulted command (D.told desk.old) (D.faults desk.old) (D.faults desk.new)) }
@@ -34,13 +46,16 @@ pub fn run<D: Desk>(alloc: Global, words: &[String], desk: &mut D) -> u8
         IfSome (D.told desk.old) (λ w. result ≡ 3 → PrintsRefusal command w (D.told desk.old) (D.told desk.new)) }
 
     ensures faults { let command = command_of (map (λ s. string_bytes s) words.now) in
-        result ≡ 4 → Faulted command (D.told desk.old) (D.faults desk.old) (D.faults desk.new) }
+        result ≡ 4 → (Faulted command (D.told desk.old) (D.faults desk.old) (D.faults desk.new)) }
     ensures cut_off { let command = command_of (map (λ s. string_bytes s) words.now) in
-        result ≡ 4 → PrintsAtMost command (D.told desk.old) (D.told desk.new) }
+        result ≡ 4 → LeavesAtMost command (D.told desk.old) (D.told desk.new) }
     ensures memory { result ≡ 5 → LeavesAll (D.told desk.old) (D.told desk.new) }
 
     ensures completes { let command = command_of (map (λ s. string_bytes s) words.now) in
         IfSome (D.told desk.old) (λ w. IsComplete command w (D.faults desk.old) (D.faults desk.new) result) }
+
+    // All of this at once, for a run that others follow.
+    ensures ended { Ended (command_of (map (λ s. string_bytes s) words.now)) (D.told desk.old) (D.told desk.new) (D.faults desk.old) (D.faults desk.new) result }
 {
     carry_out(alloc, words, desk)
 }
@@ -51,37 +66,55 @@ fn carry_out<D: Desk>(alloc: Global, words: &[String], desk: &mut D) -> u8
     ensures ended { Ended (command_of (map (λ s. string_bytes s) words.now)) (D.told desk.old) (D.told desk.new) (D.faults desk.old) (D.faults desk.new) result }
 {
     match TextRoom::new(alloc) {
-        Ok(mut room) => reply_by(alloc, words, desk, &mut room),
+        Ok(mut room) => answer_words(alloc, words, desk, &mut room),
         Err(_) => 5,
     }
 }
 
-// The reply is decided, and then printed.
-fn reply_by<D: Desk>(alloc: Global, words: &[String], desk: &mut D, room: &mut TextRoom) -> u8
+fn answer_words<D: Desk>(alloc: Global, words: &[String], desk: &mut D, room: &mut TextRoom) -> u8
     ensures later { D.faults desk.old ≤ D.faults desk.new }
     ensures ended { Ended (command_of (map (λ s. string_bytes s) words.now)) (D.told desk.old) (D.told desk.new) (D.faults desk.old) (D.faults desk.new) result }
 {
-    match decide(alloc, words, desk) {
-        Ok(reply) => match print_reply(&reply, desk, room) {
-            Ok(()) => reply.status(),
-            Err(_) => 4,
-        },
+    match read_words(alloc, words) {
+        Ok(command) => answer(alloc, &command, desk, room),
+        Err(WordsFault::Usage) => refuse_words(desk, room),
+        Err(WordsFault::Memory) => 5,
+    }
+}
+
+fn refuse_words<D: Desk>(desk: &mut D, room: &mut TextRoom) -> u8
+    ensures later { D.faults desk.old ≤ D.faults desk.new }
+    ensures ended { Ended None (D.told desk.old) (D.told desk.new) (D.faults desk.old) (D.faults desk.new) result }
+{
+    match print_reply(&Reply::Refused(Refusal::Words), desk, room) {
+        Ok(()) => 2,
+        Err(_) => 4,
+    }
+}
+
+// The reply is decided, and then delivered.
+fn answer<D: Desk>(alloc: Global, command: &Command, desk: &mut D, room: &mut TextRoom) -> u8
+    ensures later { D.faults desk.old ≤ D.faults desk.new }
+    ensures ended { Ended (Some command.now) (D.told desk.old) (D.told desk.new) (D.faults desk.old) (D.faults desk.new) result }
+{
+    match decide(alloc, command, desk) {
+        Ok(reply) => deliver(&reply, command, desk, room),
         Err(Stop::Fault) => 4,
         Err(Stop::Memory) => 5,
     }
 }
 
-// The reply to these words over the files of this desk.
-fn decide<D: Desk>(alloc: Global, words: &[String], desk: &mut D) -> Result<Reply, Stop>
+// The reply to this command over the files of this desk.
+fn decide<D: Desk>(alloc: Global, command: &Command, desk: &mut D) -> Result<Reply, Stop>
     ensures world { OnlyOpens (D.told desk.old) (D.told desk.new) }
     ensures later { D.faults desk.old ≤ D.faults desk.new }
-    ensures reply { IfOk result (Answers (command_of (map (λ s. string_bytes s) words.now)) (D.told desk.old)) }
+    ensures reply { IfOk result (AnswersCommand command.now (D.told desk.old)) }
     ensures printable { IfOk result IsPrintable }
-    ensures stop { IfErr result (StopCause (command_of (map (λ s. string_bytes s) words.now)) (D.told desk.old) (D.faults desk.old) (D.faults desk.new)) }
+    ensures kept { IfOk result CanBeKept }
+    ensures stop { IfErr result (StopCause (Some command.now) (D.told desk.old) (D.faults desk.old) (D.faults desk.new)) }
 {
-    match read_words(alloc, words) {
-        Ok(Command::Solve { file }) => solve(alloc, file.text(), desk),
-        Err(WordsFault::Usage) => Ok(Reply::Refused(Refusal::Words)),
-        Err(WordsFault::Memory) => Err(Stop::Memory),
+    match command {
+        Command::Solve { file, .. } => solve(alloc, file.text(), desk),
+        Command::Check { file, cert } => check(alloc, file.text(), cert.text(), desk),
     }
 }

@@ -1,8 +1,26 @@
-use Rattle.lop_tool.proofs.Promises.{solves, usage_line}
+use Rattle.lop_tool.proofs.Promises.{solves, checks, rejects, rejection_line, usage_line, refuses_of, refusal_line_of, completes}
 use Rattle.lop_tool.proofs.top.run.Goals as goal
 
 pub returns-clause-solves : goal.returns-clause-solves
 returns-clause-solves g c = solves _ _ _ _ _ _ c.carry_out.ensures.ended
 
+pub returns-clause-rejects : goal.returns-clause-rejects
+returns-clause-rejects g c = rejects _ _ _ _ _ _ c.carry_out.ensures.ended
+
+pub returns-clause-rejection_line : goal.returns-clause-rejection_line
+returns-clause-rejection_line g c = rejection_line _ _ _ _ _ _ c.carry_out.ensures.ended
+
 pub returns-clause-usage_line : goal.returns-clause-usage_line
 returns-clause-usage_line g c = usage_line _ _ _ _ _ _ c.carry_out.ensures.ended
+
+pub returns-clause-refuses : goal.returns-clause-refuses
+returns-clause-refuses g c = refuses_of _ _ _ _ _ _ c.carry_out.ensures.ended
+
+pub returns-clause-refusal_line : goal.returns-clause-refusal_line
+returns-clause-refusal_line g c = refusal_line_of _ _ _ _ _ _ c.carry_out.ensures.ended
+
+pub returns-clause-completes : goal.returns-clause-completes
+returns-clause-completes g c = completes _ _ _ _ _ _ c.carry_out.ensures.ended
+
+pub returns-clause-checks : goal.returns-clause-checks
+returns-clause-checks g c = checks _ _ _ _ _ _ c.carry_out.ensures.ended

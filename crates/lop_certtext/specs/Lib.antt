@@ -1,0 +1,4 @@
+pub mod Line
+pub mod Certificate
+pub mod Answer
+pub mod Reading

@@ -1,0 +1,36 @@
+-- What a verdict says of the text, of the weights and of the desk.
+use Rattle.std.specs.Prelude.{◌≡◌, ℕ, List, ℤ, ⊤}
+use Rattle.lop_desk.specs.Causes.{Rose}
+use Rattle.lop_model.specs.Order.{IsOrder}
+use Rattle.lop_model.specs.Matrix.{Matrix, weight, IsUpperBound}
+use Rattle.lop_certtext.specs.Answer.{CheckAnswer, accepted, rejected, too_long}
+use Rattle.lop_check.specs.declared.verdict.Verdict.{Verdict}
+use Rattle.lop_check.specs.declared.verdict.Verdict.TheVariants.{Accepted, Rejected, Failed, TooLong, Memory}
+
+-- the verdict says that this is the answer; Failed and Memory say nothing of it
+abbrev pub IsVerdict : CheckAnswer → Verdict → Type 0
+IsVerdict answer (Accepted value bound) = answer ≡ accepted value bound
+IsVerdict answer (Rejected line reason) = answer ≡ rejected line reason
+IsVerdict answer TooLong = answer ≡ too_long
+IsVerdict answer Failed = ⊤
+IsVerdict answer Memory = ⊤
+
+-- some order of C's objects weighs this
+abbrev pub IsWeighed : Matrix → ℤ → Type 0
+IsWeighed C value = (s : List ℕ) × (IsOrder C.size s × (weight C s ≡ value))
+
+-- an accepted value is the weight of some order, and no order weighs more than the accepted bound
+abbrev pub IsBounded : Matrix → Verdict → Type 0
+IsBounded C (Accepted value bound) = IsWeighed C value × IsUpperBound C bound
+IsBounded C (Rejected line reason) = ⊤
+IsBounded C TooLong = ⊤
+IsBounded C Failed = ⊤
+IsBounded C Memory = ⊤
+
+-- the count of faults rose where the verdict is Failed
+abbrev pub VerdictCause : ℕ → ℕ → Verdict → Type 0
+VerdictCause before now Failed = Rose before now
+VerdictCause before now (Accepted value bound) = ⊤
+VerdictCause before now (Rejected line reason) = ⊤
+VerdictCause before now TooLong = ⊤
+VerdictCause before now Memory = ⊤

@@ -1,0 +1,103 @@
+// The numbers of an order's line, and what the weights give for them.
+ghost use Rattle.std.specs.Prelude.{◌≡◌, ◌<◌, ◌^◌, ◌==◌, ◌&&◌, int_le, [], true, length, pos, neg_ℤ, ◌≤ℤ◌, nat_abs, slice_index};
+ghost use Rattle.std.specs.List.{list_any};
+ghost use Rattle.lop_model.specs.Matrix.{entry, weight, IsUpperBound};
+ghost use Rattle.lop_model.specs.Bound.{pair_value, pair_bound};
+ghost use Rattle.lop_certtext.specs.Answer.{is_order, objects_of};
+
+use lop_model::Weights;
+
+// Whether the number is one of these.
+fn is_among(numbers: &[i64], number: i64) -> bool
+    ensures { result ≡ list_any (λ y. nat_abs y == nat_abs number) numbers.now }
+{
+    numbers
+        .iter()
+        .any(|other| other.unsigned_abs() == number.unsigned_abs())
+}
+
+// Whether the number is one of 1 to n.
+fn is_object(number: i64, n: u16) -> bool
+    ensures { result ≡ (int_le (pos 1) number && int_le number (pos n)) }
+{
+    1 <= number && number <= i64::from(n)
+}
+
+// Whether the numbers are an order of 1 to n. O(n²).
+pub fn are_order(numbers: &[i64], n: u16) -> bool
+    ensures { result ≡ is_order n numbers.now }
+{
+    if numbers.len() != n as usize {
+        return false;
+    }
+    for p in 0..numbers.len() {
+        let number = numbers[p];
+        if !is_object(number, n) {
+            return false;
+        }
+        if is_among(&numbers[..p], number) {
+            return false;
+        }
+    }
+    true
+}
+
+// The object at a place of an order's line, where objects count from 1.
+fn object_at(numbers: &[i64], place: usize, n: u16) -> u16
+    requires order { is_order n numbers.now ≡ true }
+    requires within { place < length numbers.now }
+    ensures object { result ≡ slice_index (objects_of numbers.now) place }
+    ensures below { result < n }
+{
+    (numbers[place].unsigned_abs() - 1) as u16
+}
+
+// Each object's entries in the columns of all that stand after it. O(n²).
+fn sum_in_order(weights: &Weights, numbers: &[i64]) -> i128
+    requires { is_order weights.now.size numbers.now ≡ true }
+    ensures value { result ≡ weight weights.now (objects_of numbers.now) }
+    ensures low { neg_ℤ (pos (10 ^ 18)) ≤ℤ result }
+    ensures high { result ≤ℤ pos (10 ^ 18) }
+{
+    let n = weights.n();
+    let mut sum: i128 = 0;
+    for q in 0..n {
+        let column = object_at(numbers, q as usize, n);
+        for p in 0..q {
+            let row = object_at(numbers, p as usize, n);
+            sum += i128::from(weights.at(row, column));
+        }
+    }
+    sum
+}
+
+// What the order of a line weighs. O(n²).
+pub fn weight_of(weights: &Weights, numbers: &[i64]) -> i64
+    requires { is_order weights.now.size numbers.now ≡ true }
+    ensures { result ≡ weight weights.now (objects_of numbers.now) }
+{
+    sum_in_order(weights, numbers) as i64
+}
+
+// The greater of the two entries of a pair.
+fn greater_entry(weights: &Weights, i: u16, j: u16) -> i64
+    requires first { i < weights.now.size }
+    requires second { j < weights.now.size }
+    ensures { result ≡ pair_value [] (entry weights.now) i j }
+{
+    weights.at(i, j).max(weights.at(j, i))
+}
+
+// The number U of a leaf with scale 1 and no terms: no order weighs more. O(n²).
+pub fn leaf_bound(weights: &Weights) -> i128
+    ensures value { result ≡ pair_bound weights.now [] }
+    ensures bound { IsUpperBound weights.now result }
+{
+    let mut upper: i128 = 0;
+    for j in 0..weights.n() {
+        for i in 0..j {
+            upper += i128::from(greater_entry(weights, i, j));
+        }
+    }
+    upper
+}

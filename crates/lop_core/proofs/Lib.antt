@@ -6,3 +6,9 @@ pub mod Replay
 pub mod Fates
 pub mod Counts
 pub mod Linked
+pub mod Scans
+pub mod Certified
+pub mod PathRoom
+pub mod CoreLemmas
+pub mod Extensions
+pub mod NodeCount

@@ -3,9 +3,9 @@ use Rattle.std.specs.Prelude.{◌≡◌, ℕ, ◌+◌, ◌*◌, ◌<◌, ◌≤�
 use Rattle.lop_model.specs.Order.{IsOrder}
 use Rattle.lop_model.specs.Matrix.{Matrix, weight, IsWeights}
 use Rattle.lop_leaf.specs.Record.{no_terms}
-use Rattle.lop_leaf.specs.Ticket.{TicketFields}
+use Rattle.lop_leaf.specs.Ticket.{TicketFields, pair_count}
 use Rattle.lop_leaf.specs.Evaluated.{EvaluatedFields}
-use Rattle.lop_leaf.specs.Sound.{Certifies, IsSoundResult}
+use Rattle.lop_leaf.specs.Sound.{Certifies, IsSoundTicket, IsSoundResult}
 use Rattle.lop_core.specs.declared.node.SearchNode.{SearchNode}
 use Rattle.lop_core.specs.declared.node.NodeView.{NodeView}
 use Rattle.lop_core.specs.declared.journal.Entry.{Entry}
@@ -105,10 +105,17 @@ IsReport old worker found (Split first) new = IsReported old worker found new ×
 abbrev pub view_of : SearchNode → NodeView
 view_of node = record { parent = node.parent; pair = node.pair; bound = node.bound; standing = node.standing; scale = 1; terms = 0 }
 
+-- what a take promises of the node that it hands out: its ticket is sound, and no live idle node has a greater bound, nor an equal one and a lower number
+abbrev pub OnNode : CoreFields → TakeReply → TicketFields → Type 0
+OnNode old Node ticket = IsSoundTicket old.problem.weights ticket × IsFirstReady old.state.nodes old.state.best ticket.node
+OnNode old Done ticket = Unit {0}
+OnNode old AllOut ticket = Unit {0}
+OnNode old Spent ticket = Unit {0}
+
 -- the rooms hold all nodes and entries that a budget allows, and a path
 pub record HasRoom (n budget node_room journal_room path_room : ℕ) : Type 0 where
   pub positive : 1 ≤ budget
   pub within_limit : budget ≤ 1000000
   pub for_nodes : 2 * budget + 1 ≤ node_room
   pub for_entries : 2 * budget ≤ journal_room
-  pub for_path : n * n ≤ path_room
+  pub for_path : pair_count n ≤ path_room

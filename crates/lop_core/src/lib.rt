@@ -3,8 +3,15 @@
 
 mod journal;
 mod node;
+mod path;
 mod reply;
+mod room;
+mod scan;
+mod search;
+mod settle;
+mod start;
 
 pub use journal::Entry;
 pub use node::{NodeView, SearchNode, Standing};
 pub use reply::{ReportReply, TakeReply};
+pub use search::Core;

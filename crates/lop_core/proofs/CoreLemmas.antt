@@ -2,7 +2,7 @@
 use Rattle.std.proofs.Common.{◌≡◌, ℕ, ◌+◌, ◌*◌, ◌<◌, ◌≤◌, List, [], ◌∷◌, ◌++◌, length, get_or, set, arith, sym, ◌∙◌, Some, None, Option, refl, ap, subst, Bool, true, false}
 use Rattle.std.proofs.lemmas.List.{get_or_read, length_push}
 use Rattle.std.proofs.lemmas.Option.{slice_get_read, get_or_from_slice_get, slice_get_within}
-use Rattle.std.specs.Prelude.{ℤ, pos, ◌≤ℤ◌, fold, int_lt, IfSome, IfNone, if◌then◌else◌, ◌↔◌}
+use Rattle.std.specs.Prelude.{slice_get, ℤ, pos, ◌≤ℤ◌, fold, int_lt, IfSome, IfNone, if◌then◌else◌, ◌↔◌}
 use Rattle.std.specs.Int.{int_max}
 use Rattle.std.proofs.lemmas.Int.{ints, clamps}
 use Rattle.lop_model.specs.declared.pair.Pair.{Pair}
@@ -12,9 +12,10 @@ use Rattle.lop_model.specs.Fixings.{IsClosure, IsUndecided, IsBranchingPath, Are
 use Rattle.lop_model.specs.Bound.{pair_bound}
 use Rattle.lop_leaf.specs.Record.{ScaledTerms, no_terms}
 use Rattle.lop_leaf.specs.Ticket.{TicketFields, pair_count}
-use Rattle.lop_leaf.specs.Sound.{Certifies, IsDecidedResult, IsSoundTicket}
+use Rattle.lop_leaf.specs.Sound.{Certifies, IsDecidedResult}
 use Rattle.lop_leaf.proofs.PathLemmas.{weight-le-certified}
-use Rattle.lop_core.proofs.Lists.{EachFollows-nil}
+use Rattle.lop_core.proofs.Lists.{EachFollows-nil, slice_get-set_same}
+use Rattle.lop_core.proofs.TreeLemmas.{paths-changed}
 use Rattle.lop_core.specs.declared.node.SearchNode.{SearchNode}
 use Rattle.lop_core.specs.declared.journal.Entry.{Entry}
 use Rattle.lop_core.specs.declared.journal.Entry.TheVariants.{Take, Report}
@@ -24,7 +25,7 @@ use Rattle.lop_leaf.specs.Evaluated.{EvaluatedFields}
 use Rattle.lop_core.specs.Tree.{no_pair, child, node_at, path_of, is_out, out_count, IsCoveredOnce}
 use Rattle.lop_core.specs.Machine.{Problem, SearchState, changed, after, settled, divided, closed, settled_nodes, IsOutTo, IsReady, IsLive, IsFirstReady, raised_by, state_bound}
 use Rattle.lop_core.specs.Journal.{IsPathBound, AreCounted, replay, MayTake, MayReport, MayFollow, HasTake, HasReport, entries_of}
-use Rattle.lop_core.specs.Core.{CoreFields, prepared, HasHistory, AreCertified, with_entry, IsSoundReport, ticket_of, entry_of, KeepsOrder}
+use Rattle.lop_core.specs.Core.{CoreFields, prepared, HasHistory, AreCertified, with_entry, IsTicketOf, IsHandedOut, IsSoundReport, ticket_of, entry_of, KeepsOrder}
 use Rattle.lop_core.proofs.Replay.{replay_push, IsLawful_push, sound_replay, covered_once, weight-le-state_bound}
 use Rattle.lop_core.proofs.Fates.{out_exactly}
 use Rattle.lop_core.proofs.Sound.{IsSound, count_changed, one_if}
@@ -104,7 +105,7 @@ core_branching core h = subst (λ (s : SearchState). (i : ℕ) → i < length s.
 
 -- what a sound report shows: its bound is the pair bound under the node's path
 reported_bound : (core : CoreFields) (found : EvaluatedFields) → IsSoundReport core found → (G : List Pair) → IsClosure (path_of core.state.nodes found.node) G → found.bound ≡ pair_bound core.problem.weights G
-reported_bound core found r G c = r.sound.bound G (subst (λ (p : List Pair). IsClosure p G) (sym r.path) c)
+reported_bound core found r G c = r.sound.bound G (subst (λ (p : List Pair). IsClosure p G) (sym r.is_of.path) c)
 
 reported_certified : (core : CoreFields) (found : EvaluatedFields) → IsSoundReport core found → Certifies core.problem.weights (path_of core.state.nodes found.node) found.bound
 reported_certified core found r = record { each = λ G c. let same : found.bound ≡ pair_bound core.problem.weights G = reported_bound core found r G c in omega (arith, ints) }
@@ -119,7 +120,7 @@ undecided_pair n path path' None e u = tt
 undecided_pair n path path' (Some p) e u = subst (λ (q : List Pair). IsUndecided n q p.before p.after) e u
 
 reported_undecided : (core : CoreFields) (found : EvaluatedFields) → IsSoundReport core found → IfSome found.pair (λ p. IsUndecided core.problem.weights.size (path_of core.state.nodes found.node) p.before p.after)
-reported_undecided core found r = undecided_pair core.problem.weights.size r.ticket.path (path_of core.state.nodes found.node) found.pair r.path r.sound.undecided
+reported_undecided core found r = undecided_pair core.problem.weights.size r.ticket.path (path_of core.state.nodes found.node) found.pair r.is_of.path r.sound.undecided
 
 -- a sound report may come
 may_report : (core : CoreFields) (w : ℕ) (found : EvaluatedFields) → HasHistory core → IsOutTo core.state w found.node → IsSoundReport core found
@@ -129,12 +130,12 @@ may_report core w found h out r =
     let lt : found.node < length core.state.nodes = slice_get_within core.state.nodes found.node out.0 out.1 in
     record {
       is_out = out;
-      no_more = subst (λ (b : ℤ). found.bound ≤ℤ b) r.bound r.sound.no_more;
+      no_more = subst (λ (b : ℤ). found.bound ≤ℤ b) r.is_of.bound r.sound.no_more;
       yardstick = λ G c. let same : found.bound ≡ pair_bound core.problem.weights G = reported_bound core found r G c in omega (arith, ints);
       holds = λ s o x. weight-le-certified core.problem.weights (path_of core.state.nodes found.node) found.bound s (core_branching core h found.node lt) (reported_certified core found r) o x;
       attained = record { order = found.order; is_order = r.sound.order; weighs = sym r.sound.value };
       undecided = reported_undecided core found r;
-      all_decided = decided_value core found (path_of core.state.nodes found.node) found.pair r.ticket r.path r.sound.all_decided;
+      all_decided = decided_value core found (path_of core.state.nodes found.node) found.pair r.ticket r.is_of.path r.sound.all_decided;
       with_room = refl;
     }
 
@@ -321,13 +322,31 @@ pub take_step : (core new : CoreFields) (w i : ℕ) (ticket : TicketFields) → 
 take_step core new w i ticket may view e =
     subst (λ (k : ℕ). MayTake core.problem core.state k × (new ≡ with_entry core (Take w k) core.order) × (ticket ≡ ticket_of core k)) (sym (ap (λ (t : TicketFields). t.node) e)) (may, view, e)
 
+module _ (core : CoreFields) (w i : ℕ) (lt : i < length core.state.nodes) where
+  -- a take changes the standing of its node alone
+  taken_there : slice_get (changed core.state.nodes i (node_at core.state.nodes i).bound (Out w)) i ≡ Some (record (node_at core.state.nodes i) { standing = Out w })
+  taken_there = slice_get-set_same core.state.nodes i _ lt
+
+  taken_ticket : IsTicketOf (with_entry core (Take w i) core.order) i (ticket_of core i)
+  taken_ticket = rw (take_nodes core.state w i) (record {
+    bound = ap (λ (m : SearchNode). m.bound) (sym (get_or_from_slice_get (changed core.state.nodes i (node_at core.state.nodes i).bound (Out w)) i _ _ taken_there));
+    path = ap (λ (ps : List (List Pair)). get_or ps i []) (sym (paths-changed core.state.nodes i (node_at core.state.nodes i).bound (Out w) lt));
+  })
+
+  taken_out : IsOutTo (with_entry core (Take w i) core.order).state w i
+  taken_out = rw (take_nodes core.state w i) (record (node_at core.state.nodes i) { standing = Out w }, taken_there, refl)
+
 -- what a take promises of its ticket
-pub take_on_node : (core : CoreFields) (i : ℕ) (ticket : TicketFields) → HasHistory core → AreCertified core.problem.weights core.state.nodes → i < length core.state.nodes → ticket ≡ ticket_of core i → IsFirstReady core.state.nodes core.state.best i
-    → IsSoundTicket core.problem.weights ticket × IsFirstReady core.state.nodes core.state.best ticket.node
-take_on_node core i ticket h all lt e first = (
-  subst (IsSoundTicket core.problem.weights) (sym e) (record { same_size = refl; branching = core_branching core h i lt; certified = all i lt }),
-  subst (IsFirstReady core.state.nodes core.state.best) (sym (ap (λ (t : TicketFields). t.node) e)) first,
-)
+pub take_on_node : (core new : CoreFields) (w i : ℕ) (ticket : TicketFields) → HasHistory core → AreCertified core.problem.weights core.state.nodes → i < length core.state.nodes
+    → new ≡ with_entry core (Take w i) core.order → ticket ≡ ticket_of core i → IsFirstReady core.state.nodes core.state.best i → IsHandedOut core w new ticket
+take_on_node core new w i ticket h all lt en e first =
+    let own : IsHandedOut core w (with_entry core (Take w i) core.order) (ticket_of core i) = record {
+      sound = record { same_size = refl; branching = core_branching core h i lt; certified = all i lt };
+      is_of = taken_ticket core w i lt;
+      is_out = taken_out core w i lt;
+      first = first;
+    } in
+    subst (λ (v : CoreFields). IsHandedOut core w v ticket) (sym en) (subst (λ (t : TicketFields). IsHandedOut core w (with_entry core (Take w i) core.order) t) (sym e) own)
 
 -- the answer of the scan is the state's bound
 pub bound_found : (s : SearchState) (seen : List SearchNode) (best z z' : ℤ) → seen ≡ s.nodes → best ≡ s.best → z' ≡ z → z ≡ fold raised_by best seen → z' ≡ state_bound s

@@ -70,11 +70,29 @@ IsTake old blank worker Spent new ticket = ((node : ℕ) × IsReady old.state.no
 -- a node is live, and no live node is idle
 IsTake old blank worker AllOut new ticket = ((node : ℕ) × IsLive old.state.nodes old.state.best node) × ((node : ℕ) → ¬ (IsReady old.state.nodes old.state.best node)) × NothingTaken old blank new ticket
 
+-- the ticket has the node's bound and path
+pub record IsTicketOf (core : CoreFields) (node : ℕ) (ticket : TicketFields) : Type 0 where
+  pub bound : ticket.bound ≡ (node_at core.state.nodes node).bound
+  pub path : ticket.path ≡ path_of core.state.nodes node
+
+-- the node of the ticket was handed out to the worker: the ticket is sound, it is still that of the node, and no live idle node had a greater bound, nor an equal one and a lower number
+pub record IsHandedOut (old : CoreFields) (worker : ℕ) (new : CoreFields) (ticket : TicketFields) : Type 0 where
+  pub sound : IsSoundTicket old.problem.weights ticket
+  pub is_of : IsTicketOf new ticket.node ticket
+  pub is_out : IsOutTo new.state worker ticket.node
+  pub first : IsFirstReady old.state.nodes old.state.best ticket.node
+
+-- what a take that replies `Node` promises of the node
+abbrev pub OnNode : CoreFields → ℕ → TakeReply → CoreFields → TicketFields → Type 0
+OnNode old worker Node new ticket = IsHandedOut old worker new ticket
+OnNode old worker Done new ticket = Unit {0}
+OnNode old worker AllOut new ticket = Unit {0}
+OnNode old worker Spent new ticket = Unit {0}
+
 -- the result is sound for a ticket with the node's number, bound and path
 pub record IsSoundReport (core : CoreFields) (found : EvaluatedFields) : Type 0 where
   pub ticket : TicketFields
-  pub bound : ticket.bound ≡ (node_at core.state.nodes found.node).bound
-  pub path : ticket.path ≡ path_of core.state.nodes found.node
+  pub is_of : IsTicketOf core found.node ticket
   pub sound : IsSoundResult core.problem.weights ticket found
 
 -- the entry of a report
@@ -104,13 +122,6 @@ IsReport old worker found (Split first) new = IsReported old worker found new ×
 -- what is known of a node
 abbrev pub view_of : SearchNode → NodeView
 view_of node = record { parent = node.parent; pair = node.pair; bound = node.bound; standing = node.standing; scale = 1; terms = 0 }
-
--- what a take promises of the node that it hands out: its ticket is sound, and no live idle node has a greater bound, nor an equal one and a lower number
-abbrev pub OnNode : CoreFields → TakeReply → TicketFields → Type 0
-OnNode old Node ticket = IsSoundTicket old.problem.weights ticket × IsFirstReady old.state.nodes old.state.best ticket.node
-OnNode old Done ticket = Unit {0}
-OnNode old AllOut ticket = Unit {0}
-OnNode old Spent ticket = Unit {0}
 
 -- the rooms hold all nodes and entries that a budget allows, and a path
 pub record HasRoom (n budget node_room journal_room path_room : ℕ) : Type 0 where

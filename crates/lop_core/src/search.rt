@@ -6,6 +6,7 @@ ghost use Rattle.lop_leaf.specs.Sound.{Certifies};
 ghost use Rattle.lop_core.specs.Tree.{IsCoveredOnce, node_at, path_of};
 ghost use Rattle.lop_core.specs.Machine.{IsOutTo, live_count, ready_count, state_bound};
 ghost use Rattle.lop_core.specs.Journal.{HasTake, HasReport, entries_of, AreCounted};
+ghost use Rattle.lop_core.specs.AllOrders.{AreAllOrders};
 ghost use Rattle.lop_core.specs.Core.{CoreFields, HasHistory, IsTake, OnNode, IsReport, IsSoundReport, prepared, view_of};
 
 use crate::journal::Entry;
@@ -41,7 +42,8 @@ pub struct Core {
 impl Model for Core {
     ghost use Rattle.std.specs.Prelude.{◌≡◌, vec_capacity};
     ghost use Rattle.lop_leaf.specs.Record.{no_terms};
-    ghost use Rattle.lop_core.specs.Core.{CoreFields, HasHistory, AreCertified, HasRoom};
+    ghost use Rattle.lop_core.specs.AllOrders.{AreAllOrders};
+ghost use Rattle.lop_core.specs.Core.{CoreFields, HasHistory, AreCertified, HasRoom};
     ghost use Rattle.lop_core.specs.Tree.{out_count};
 
     ghost Value = { CoreFields };
@@ -104,7 +106,7 @@ impl Core {
     pub fn take(&mut self, worker: u32, into: &mut Ticket) -> TakeReply
         requires same_n { into.old.size ≡ self.old.problem.weights.size }
         ensures step { IsTake self.old into.old worker result self.new into.new }
-        ensures on_node { OnNode self.old result into.new }
+        ensures on_node { OnNode self.old worker result self.new into.new }
     {
         let Some(index) = best_ready(&self.nodes, self.best) else {
             return match first_live(&self.nodes, self.best) {
@@ -230,9 +232,10 @@ impl Core {
         count_ready(&self.nodes, self.best)
     }
 
-    /// The number of nodes.
+    /// The number of nodes: at most twice the number of all orders of n, less one.
     pub fn nodes(&self) -> u32
         ensures value { result ≡ length self.now.state.nodes }
+        ensures at_most { (all : List (List ℕ)) → AreAllOrders self.now.problem.weights.size all → result + 1 ≤ 2 * length all }
         ensures within_budget { result ≤ 2 * self.now.problem.budget + 1 }
     {
         self.nodes.len() as u32

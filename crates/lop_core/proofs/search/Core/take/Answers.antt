@@ -118,7 +118,9 @@ returns-clause-on_node c =
     let d : length c.deref.result.now ≡ length c.self.inside.nodes.items = ap length c.deref.ensures.value in
     let lt : c.in-Some.index < length c.deref.result.now = slice_get_within c.deref.result.now c.in-Some.index r.it r.is_there in
     let inside : c.in-Some.index < length c.self.inside.nodes.items = omega arith in
+    let nodes = written_out c.self.inside.nodes.items c.in-Some.index c.args.worker c.index_mut.result.now inside c.index_mut.ensures.value in
     let size = c.requires.same_n ∙ sym (ap (λ (v : CoreFields). v.problem.weights.size) c.self.view_is) in
     let ticket = ticket_is (the_view c.self.inside) c.in-Some.index _ c.deref-2.result.now _ _ c.fill_ticket.new.into c.deref-2.ensures.value size best c.self.invariant.4 c.fill_ticket.ensures.ticket in
-    rw (← c.self.view_is) (take_on_node (the_view c.self.inside) c.in-Some.index c.fill_ticket.new.into c.self.invariant.0 c.self.invariant.1 inside ticket
+    let view = take_view (the_view c.self.inside) c.args.worker c.in-Some.index _ _ nodes c.put_last.ensures.items in
+    rw (← c.self.view_is) (take_on_node (the_view c.self.inside) _ c.args.worker c.in-Some.index c.fill_ticket.new.into c.self.invariant.0 c.self.invariant.1 inside view ticket
     (first_in (the_view c.self.inside).state c.in-Some.index c.deref.result.now _ c.deref.ensures.value best c.in-Some.ensures.found))

@@ -1,9 +1,8 @@
 -- Each node's record certifies its bound: what an event leaves of that.
-use Rattle.std.proofs.Common.{◌≡◌, ◌≢◌, ℕ, ◌+◌, ◌<◌, ◌≤◌, List, [], ◌∷◌, ◌++◌, get_or, length, inl, inr, arith, sym, ◌∙◌, Some, None, Option, refl, ap, subst, suc, zero, Bool, true, false, length-set, append_assoc}
-use Rattle.std.specs.Prelude.{slice_get, ℤ, pos, int_lt, IfSome, if◌then◌else◌}
+use Rattle.std.proofs.Common.{◌≡◌, ℕ, ◌+◌, ◌<◌, List, [], ◌∷◌, ◌++◌, get_or, length, inl, inr, arith, sym, ◌∙◌, Some, None, Option, ap, subst, suc, zero, Bool, true, false, length-set, append_assoc}
+use Rattle.std.specs.Prelude.{ℤ, pos, int_lt, IfSome, if◌then◌else◌}
 use Rattle.std.proofs.lemmas.Int.{ints}
 use Rattle.std.proofs.lemmas.Bool.{cases_eq, cases_lt}
-use Rattle.std.proofs.lemmas.Option.{slice_get_within}
 use Rattle.std.proofs.lemmas.List.{get_or-set_same, get_or-set_other, get_or_append_left, get_or_push, length_push}
 use Rattle.lop_model.specs.declared.pair.Pair.{Pair}
 use Rattle.lop_model.specs.Matrix.{Matrix}

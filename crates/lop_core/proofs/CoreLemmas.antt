@@ -24,11 +24,11 @@ use Rattle.lop_core.specs.declared.node.Standing.TheVariants.{Idle, Out}
 use Rattle.lop_leaf.specs.Evaluated.{EvaluatedFields}
 use Rattle.lop_core.specs.Tree.{no_pair, child, node_at, path_of, is_out, out_count, IsCoveredOnce}
 use Rattle.lop_core.specs.Machine.{Problem, SearchState, changed, after, settled, divided, closed, settled_nodes, IsOutTo, IsReady, IsLive, IsFirstReady, raised_by, state_bound}
-use Rattle.lop_core.specs.Journal.{IsPathBound, AreCounted, replay, MayTake, MayReport, MayFollow, HasTake, HasReport, entries_of}
+use Rattle.lop_core.specs.Journal.{AreCounted, MayTake, MayReport, MayFollow, HasTake, HasReport, entries_of}
 use Rattle.lop_core.specs.Core.{CoreFields, prepared, HasHistory, AreCertified, with_entry, IsTicketOf, IsHandedOut, IsSoundReport, ticket_of, entry_of, KeepsOrder}
 use Rattle.lop_core.proofs.Replay.{replay_push, IsLawful_push, sound_replay, covered_once, weight-le-state_bound}
 use Rattle.lop_core.proofs.Fates.{out_exactly}
-use Rattle.lop_core.proofs.Sound.{IsSound, count_changed, one_if}
+use Rattle.lop_core.proofs.Sound.{count_changed, one_if}
 use Rattle.lop_core.proofs.PathRoom.{length-branching}
 use Rattle.lop_core.proofs.Certified.{certified_root, certified_changed, certified_settled}
 use Rattle.lop_core.proofs.Counts.{counted}

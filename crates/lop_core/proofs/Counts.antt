@@ -11,7 +11,7 @@ use Rattle.lop_core.specs.declared.journal.Entry.TheVariants.{Take, Report}
 use Rattle.lop_core.specs.declared.node.Standing.{Standing}
 use Rattle.lop_core.specs.declared.node.Standing.TheVariants.{Idle, Out, Split}
 use Rattle.lop_core.specs.Tree.{node_at, is_split, is_out, split_count, out_count}
-use Rattle.lop_core.specs.Machine.{Problem, SearchState, root_state, changed, after, settled, closed, divided}
+use Rattle.lop_core.specs.Machine.{Problem, SearchState, changed, after, settled, closed, divided}
 use Rattle.lop_core.specs.Journal.{AreCounted, replay, is_report, MayTake, MayReport, MayFollow, IsLawfulJournal}
 use Rattle.lop_core.proofs.Sound.{count_changed, one_if}
 use Rattle.lop_core.proofs.Replay.{replay_push}

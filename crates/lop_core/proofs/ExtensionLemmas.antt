@@ -1,14 +1,12 @@
 -- Orders that extend a path, and one more pair.
-use Rattle.std.proofs.Common.{◌≡◌, ◌≢◌, ℕ, ◌+◌, ◌<◌, ◌≤◌, List, [], ◌∷◌, ◌++◌, length, take, get_or, ◌⊎◌, inl, inr, arith, sym, ◌∙◌, ap, subst}
-use Rattle.std.specs.Prelude.{IsTrue}
+use Rattle.std.proofs.Common.{◌≡◌, ◌≢◌, ℕ, ◌+◌, ◌<◌, ◌≤◌, List, [], ◌∷◌, ◌++◌, length, ◌⊎◌, inl, inr, arith, sym, subst}
 use Rattle.std.proofs.lemmas.Bool.{cases_lt}
 use Rattle.std.proofs.lemmas.List.{length_push, take-append-le, take_at, get_or_append_left, get_or_push}
 use Rattle.lop_model.specs.declared.pair.Pair.{Pair}
 use Rattle.lop_model.specs.Order.{IsOrder, StandsBefore, place_of}
-use Rattle.lop_model.specs.Fixings.{has_pair, IsLinearExtension, IsUndecided, IsBranchingPath}
+use Rattle.lop_model.specs.Fixings.{IsLinearExtension, IsUndecided, IsBranchingPath}
 use Rattle.lop_model.proofs.OrderLemmas.{places_apart}
 use Rattle.lop_model.proofs.ClosureLemmas.{has_pair-append_left, has_pair-more_cases, has_pair-more_new}
-use Rattle.lop_core.specs.Tree.{reversed}
 
 -- of two different objects one stands before the other
 pub one_way : (n : ℕ) (s : List ℕ) (a b : ℕ) → IsOrder n s → a < n → b < n → a ≢ b → StandsBefore s a b ⊎ StandsBefore s b a

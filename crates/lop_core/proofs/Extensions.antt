@@ -1,17 +1,17 @@
 -- Every branching path is extended by some order: the objects by how many are fixed before each.
-use Rattle.std.proofs.Common.{◌≡◌, ◌≢◌, ℕ, zero, suc, ◌+◌, ◌<◌, ◌≤◌, Bool, true, false, cond, eqb, leb, ltb, List, [], ◌∷◌, length, get_or, inl, inr, ◌⊎◌, refl, sym, ◌∙◌, ap, subst, arith}
+use Rattle.std.proofs.Common.{◌≡◌, ℕ, zero, suc, ◌+◌, ◌<◌, ◌≤◌, Bool, true, false, cond, leb, List, [], ◌∷◌, length, get_or, inl, inr, refl, sym, ◌∙◌, ap, subst, arith}
 use Rattle.std.specs.Prelude.{IsTrue}
-use Rattle.std.specs.List.{range_with_len, insert}
+use Rattle.std.specs.List.{range_with_len}
 use Rattle.std.specs.List.Sorted.{IsPermutation}
 use Rattle.std.proofs.lemmas.Bool.{cases_lt, cases_eq}
 use Rattle.std.proofs.lemmas.Bool.Decides.{nat_tests}
 use Rattle.std.proofs.lemmas.List.Sorted.{IsPermutation-refl, IsPermutation-cons, IsPermutation-trans, IsPermutation-insert}
 use Rattle.lop_model.specs.declared.pair.Pair.{Pair}
 use Rattle.lop_model.specs.Order.{IsOrder, place_of, StandsBefore}
-use Rattle.lop_model.specs.Fixings.{has_pair, LeadsTo, one_pair, pair_then, IsClosure, IsLinearExtension, IsBranchingPath}
+use Rattle.lop_model.specs.Fixings.{has_pair, one_pair, pair_then, IsLinearExtension, IsBranchingPath}
 use Rattle.lop_model.proofs.OrderLemmas.{at-place_of, place_of-below, IsOrder-range, IsOrder-IsPermutation}
 use Rattle.lop_model.proofs.FixingsLemmas.{IsLinearExtension-from_closure}
-use Rattle.lop_fix.specs.PartialOrder.{FixedPairs, IsPartialOrder}
+use Rattle.lop_fix.specs.PartialOrder.{IsPartialOrder}
 use Rattle.lop_leaf.proofs.PathLemmas.{ClosedOrder, ClosedOrder-path}
 
 -- ---- sorting by a key

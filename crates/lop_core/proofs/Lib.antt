@@ -12,3 +12,4 @@ pub mod PathRoom
 pub mod CoreLemmas
 pub mod Extensions
 pub mod NodeCount
+pub mod JudgeLemmas

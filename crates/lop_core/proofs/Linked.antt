@@ -1,9 +1,8 @@
 -- Each node but the root comes after its parent, and its path goes on from its parent's.
-use Rattle.std.proofs.Common.{◌≡◌, ◌≢◌, ℕ, ◌+◌, ◌<◌, ◌≤◌, List, [], ◌∷◌, ◌++◌, length, get_or, set, ◌⊎◌, inl, inr, arith, sym, ◌∙◌, Some, None, Option, refl, ap, subst, suc, zero, Bool, true, false, length-set, length-append, reverse, append_assoc}
+use Rattle.std.proofs.Common.{◌≡◌, ℕ, ◌<◌, List, [], ◌∷◌, ◌++◌, length, get_or, inl, inr, arith, sym, ◌∙◌, Some, None, Option, refl, ap, subst, suc, zero, Bool, true, false, length-set, length-append, reverse, append_assoc}
 use Rattle.std.specs.Prelude.{slice_get, ℤ, int_lt, if◌then◌else◌, fold}
 use Rattle.std.proofs.lemmas.List.{reverse-append, length-reverse, get_or_append_left, length_push}
-use Rattle.std.specs.Int.{int_max}
-use Rattle.std.proofs.lemmas.Option.{slice_get-get_or, slice_get_within, get_or_from_slice_get, same_Some, none-some}
+use Rattle.std.proofs.lemmas.Option.{slice_get-get_or, slice_get_within, get_or_from_slice_get, none-some}
 use Rattle.lop_model.specs.declared.pair.Pair.{Pair}
 use Rattle.lop_core.proofs.Lists.{slice_get-set_cases, slice_get_two_cases, by_following}
 use Rattle.lop_core.specs.declared.node.SearchNode.{SearchNode}
@@ -12,8 +11,8 @@ use Rattle.lop_core.specs.declared.node.Standing.TheVariants.{Idle, Out, Split}
 use Rattle.lop_core.specs.declared.journal.Entry.{Entry}
 use Rattle.lop_core.specs.declared.journal.Entry.TheVariants.{Take, Report}
 use Rattle.lop_core.specs.Tree.{no_pair, reversed, child, node_at, path_of, paths, with_path_of, AreLinked}
-use Rattle.lop_core.specs.Machine.{Problem, SearchState, root_state, after, settled, divided, closed, changed}
-use Rattle.lop_core.specs.Journal.{replay, MayFollow, MayTake, MayReport, IsLawfulJournal}
+use Rattle.lop_core.specs.Machine.{Problem, SearchState, after, settled, divided, closed, changed}
+use Rattle.lop_core.specs.Journal.{replay, MayFollow, IsLawfulJournal}
 use Rattle.lop_core.specs.Core.{CoreFields, HasHistory}
 use Rattle.lop_model.specs.Bound.{pair_bound}
 use Rattle.lop_core.proofs.TreeLemmas.{paths-changed, path_of_two_old, path_of_two_first, path_of_two_second}

@@ -1,10 +1,9 @@
 -- The nodes of a lawful journal's replay are at most twice the orders, less one.
-use Rattle.std.proofs.Common.{◌≡◌, ℕ, ◌+◌, ◌*◌, ◌<◌, ◌≤◌, List, [], ◌∷◌, length, ◌⊎◌, inl, inr, arith, sym, refl, ap, subst, suc, zero, Bool, true, false, cond, eqb, ◌||◌, eq-eqb}
+use Rattle.std.proofs.Common.{◌≡◌, ℕ, ◌+◌, ◌*◌, ◌<◌, ◌≤◌, List, [], ◌∷◌, length, inl, inr, arith, sym, refl, ap, subst, suc, zero, Bool, true, false, cond, eqb, ◌||◌, eq-eqb}
 use Rattle.std.specs.List.{list_any}
 use Rattle.std.proofs.lemmas.Map.Steps.{le-length_from_below}
 use Rattle.std.proofs.lemmas.List.Sums.{sum_by-cons}
 use Rattle.std.proofs.lemmas.Option.{slice_get_within}
-use Rattle.lop_model.specs.declared.pair.Pair.{Pair}
 use Rattle.lop_model.specs.Order.{IsOrder}
 use Rattle.lop_model.specs.Fixings.{IsLinearExtension}
 use Rattle.lop_core.specs.AllOrders.{HasOrder, AreOrders, AreAllOrders}

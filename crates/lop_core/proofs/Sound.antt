@@ -6,7 +6,7 @@ use Rattle.std.proofs.lemmas.Bool.{cases_eq, cases_lt}
 use Rattle.std.proofs.lemmas.List.Sums.{sum_by-set, sum_by-append}
 use Rattle.lop_model.specs.declared.pair.Pair.{Pair}
 use Rattle.lop_model.specs.Order.{IsOrder}
-use Rattle.lop_model.specs.Matrix.{Matrix, weight}
+use Rattle.lop_model.specs.Matrix.{weight}
 use Rattle.lop_model.specs.Fixings.{IsLinearExtension, IsUndecided, IsBranchingPath}
 use Rattle.lop_core.proofs.Lists.{slice_get-set_same, slice_get-set_other, slice_get-append_left, slice_get-set_cases, slice_get_two_cases, slice_get_two_second, slice_get_at}
 use Rattle.lop_core.proofs.ExtensionLemmas.{one_way, not_both, extends_more, extends_less, extends_last, reversed_undecided, IsBranchingPath-push}

@@ -1,7 +1,7 @@
 -- What contracts see of a core, what is true of it, and its steps.
 use Rattle.std.specs.Prelude.{◌≡◌, ℕ, ◌+◌, ◌*◌, ◌<◌, ◌≤◌, ◌<ℤ◌, ◌≤ℤ◌, List, [], ◌∷◌, ◌++◌, length, true}
 use Rattle.lop_model.specs.Order.{IsOrder}
-use Rattle.lop_model.specs.Matrix.{Matrix, weight, IsWeights}
+use Rattle.lop_model.specs.Matrix.{Matrix, weight}
 use Rattle.lop_leaf.specs.Record.{no_terms}
 use Rattle.lop_leaf.specs.Ticket.{TicketFields, pair_count}
 use Rattle.lop_leaf.specs.Evaluated.{EvaluatedFields}

@@ -1,5 +1,5 @@
 -- Journals: replay, whose entries, and which journals are lawful.
-use Rattle.std.specs.Prelude.{◌≡◌, ℕ, ℤ, ◌+◌, ◌*◌, ◌<◌, ◌≤◌, ◌≤ℤ◌, List, [], length, slice_get, take, fold, count_by, filter, Any, Bool, true, false, Option, Some, IfSome, IfNone, ◌==◌}
+use Rattle.std.specs.Prelude.{◌≡◌, ℕ, ℤ, ◌+◌, ◌*◌, ◌<◌, ◌≤◌, ◌≤ℤ◌, List, length, slice_get, take, fold, count_by, filter, Any, Bool, true, false, Option, Some, IfSome, IfNone, ◌==◌}
 use Rattle.lop_model.specs.declared.pair.Pair.{Pair}
 use Rattle.lop_model.specs.Order.{IsOrder}
 use Rattle.lop_model.specs.Matrix.{Matrix, weight}

@@ -1,5 +1,5 @@
 -- The states of the search, and what an event leaves.
-use Rattle.std.specs.Prelude.{◌≡◌, ℕ, ℤ, ◌+◌, ◌<◌, ◌<ℤ◌, ◌≤ℤ◌, List, [], ◌∷◌, ◌++◌, length, slice_get, slice_set, fold, count_by, Bool, false, not, ◌&&◌, Option, Some, None, if◌then◌else◌, int_lt}
+use Rattle.std.specs.Prelude.{◌≡◌, ℕ, ℤ, ◌+◌, ◌<◌, ◌<ℤ◌, ◌≤ℤ◌, List, [], ◌∷◌, ◌++◌, length, slice_get, slice_set, fold, count_by, false, not, ◌&&◌, Option, Some, None, if◌then◌else◌, int_lt}
 use Rattle.std.specs.Int.{int_max}
 use Rattle.lop_model.specs.declared.pair.Pair.{Pair}
 use Rattle.lop_model.specs.Matrix.{Matrix}

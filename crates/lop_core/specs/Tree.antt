@@ -1,5 +1,5 @@
 -- The nodes of a search as a tree: their paths, and which of them are split.
-use Rattle.std.specs.Prelude.{◌≡◌, ℕ, ℤ, pos, ◌+◌, ◌<◌, List, [], ◌∷◌, ◌++◌, slice_get, slice_index_or, fold, count_by, Bool, true, false, Some}
+use Rattle.std.specs.Prelude.{◌≡◌, ℕ, ℤ, pos, ◌<◌, List, [], ◌∷◌, ◌++◌, slice_get, slice_index_or, fold, count_by, Bool, true, false, Some}
 use Rattle.lop_model.specs.declared.pair.Pair.{Pair}
 use Rattle.lop_model.specs.Fixings.{IsLinearExtension}
 use Rattle.lop_core.specs.declared.node.SearchNode.{SearchNode}

@@ -4,7 +4,10 @@ use lop_model::Pair;
 #[derive(Clone, Copy, Debug, PartialEq, Eq)]
 pub enum Entry {
     /// A node was handed out to a worker.
-    Take { worker: u32, node: u32 },
+    Take {
+        worker: u32,
+        node: u32,
+    },
     /// A worker reported what it found at a node.
     Report {
         worker: u32,

@@ -10,6 +10,8 @@ mod scan;
 mod search;
 mod settle;
 mod start;
+#[cfg(test)]
+mod tests;
 
 pub use journal::Entry;
 pub use node::{NodeView, SearchNode, Standing};

@@ -43,7 +43,7 @@ impl Model for Core {
     ghost use Rattle.std.specs.Prelude.{◌≡◌, vec_capacity};
     ghost use Rattle.lop_leaf.specs.Record.{no_terms};
     ghost use Rattle.lop_core.specs.AllOrders.{AreAllOrders};
-ghost use Rattle.lop_core.specs.Core.{CoreFields, HasHistory, AreCertified, HasRoom};
+    ghost use Rattle.lop_core.specs.Core.{CoreFields, HasHistory, AreCertified, HasRoom};
     ghost use Rattle.lop_core.specs.Tree.{out_count};
 
     ghost Value = { CoreFields };

@@ -1,6 +1,4 @@
-use Rattle.std.proofs.Common.{◌≡◌, ℕ, ◌+◌, ◌<◌, ◌≤◌, ◌++◌, ◌∷◌, [], length, reverse, arith, sym, ◌∙◌, ap, vec_len, vec_capacity}
-use Rattle.lop_core.specs.Tree.{path_of}
-use Rattle.lop_core.specs.Tree.{node_at}
+use Rattle.std.proofs.Common.{◌<◌, arith}
 use Rattle.lop_core.proofs.Linked.{climbed, climbed_up}
 use Rattle.lop_core.proofs.path.path_into.Goals as goal
 

@@ -1,4 +1,4 @@
-use Rattle.std.proofs.Common.{◌≡◌, arith, to_z, of_z, ◌<ℤ◌, ◌≤ℤ◌, FitsSigned, rules, sym, refl}
+use Rattle.std.proofs.Common.{◌≡◌, arith, to_z, of_z, ◌<ℤ◌, ◌≤ℤ◌, FitsSigned, rules, sym}
 use Rattle.std.proofs.lemmas.Int.{ints, to_z-of_z}
 use mir.Syntax.{w128}
 use Rattle.lop_core.specs.Tree.{node_at}

@@ -1,9 +1,6 @@
-use Rattle.std.proofs.Common.{rules, ◌≡◌, ◌∙◌, sym, ap, subst, ℤ, ◌≤ℤ◌, List, FitsSigned}
-use Rattle.std.specs.Prelude.{fold}
+use Rattle.std.proofs.Common.{rules, FitsSigned}
 use Rattle.std.proofs.lemmas.Int.{to_z-of_z}
 use mir.Syntax.{w128}
-use Rattle.lop_core.specs.declared.node.SearchNode.{SearchNode}
-use Rattle.lop_core.specs.Machine.{raised_by}
 use Rattle.lop_core.specs.contracts.search.Core.{the_view}
 use Rattle.lop_core.proofs.Replay.{raised-le}
 use Rattle.lop_core.proofs.CoreLemmas.{bound_found, core_bound}

@@ -1,5 +1,4 @@
-use Rattle.std.proofs.Common.{rules, ◌≡◌, ◌+◌, ◌-◌, ◌*◌, ◌≤◌, [], ◌∷◌, ◌++◌, length, arith, sym, ◌∙◌, ap, subst, FitsSigned, to_z, of_z}
-use Rattle.std.specs.Prelude.{vec_capacity}
+use Rattle.std.proofs.Common.{rules, ◌≡◌, ◌-◌, ◌*◌, [], ◌∷◌, ◌++◌, length, arith, sym, ◌∙◌, ap, subst, FitsSigned, to_z, of_z}
 use Rattle.std.proofs.lemmas.Int.{to_z-of_z}
 use Rattle.std.proofs.lemmas.List.FromFn.{length-range_with_len}
 use mir.Syntax.{w128}
@@ -30,11 +29,16 @@ invariant_of-result-2 c =
     let product : c.n-n.result * c.saturating_sub.result ≡ c.n-n.result * (c.n-n.result - 1) = ap (λ k. c.n-n.result * k) less in
     let size : c.in_ok-copy.field-0.size ≡ c.n-n.result = ap (λ (m : Matrix). m.size) same ∙ sym (c.n-n.ensures.size ∙ c.requires.same_n) in
     let journal : c.in_ok-with_capacity.field-0.items ≡ [] = search rules in
-    let kept = made c.in_ok-copy.field-0 c.args.weights.now c.args.budget _ c.put_last.new.list.items c.in_ok-with_capacity.field-0.items _ c.args.order.now same start order nodes journal (c.kept.view_is ∙ c.copy_from.ensures) in
-    (kept.0, kept.1, record {
-      positive = c.requires.positive;
-      within_limit = c.requires.within_limit;
-      for_nodes = omega (arith, c.put_last.ensures.room, c.in_ok-nodes.ensures.capacity);
-      for_entries = omega (arith, c.in_ok-with_capacity.ensures.capacity);
-      for_path = rw size (omega (arith, product, c.in_ok-with_capacity-2.ensures.capacity));
-    }, kept.2, c.in_ok-new.ensures)
+    let kept = made c.in_ok-copy.field-0 c.args.weights.now c.args.budget _ c.put_last.new.list.items c.in_ok-with_capacity.field-0.items _ c.args.order.now same start order nodes journal (c.kept.view_is ∙ c.copy_from.ensures) in (
+      kept.0,
+      kept.1,
+      record {
+        positive = c.requires.positive;
+        within_limit = c.requires.within_limit;
+        for_nodes = omega (arith, c.put_last.ensures.room, c.in_ok-nodes.ensures.capacity);
+        for_entries = omega (arith, c.in_ok-with_capacity.ensures.capacity);
+        for_path = rw size (omega (arith, product, c.in_ok-with_capacity-2.ensures.capacity));
+      },
+      kept.2,
+      c.in_ok-new.ensures,
+    )

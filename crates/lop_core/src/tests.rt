@@ -144,40 +144,31 @@ fn order_of(alloc: Global, objects: [u16; 3]) -> Result<Option<Order>, Fail> {
 fn a_whole_search_by_hand(rt: HostRuntime) -> Result<(), Fail> {
     let alloc = rt.alloc();
     let mut core = three_sectors(alloc, 10_000)?.expect(&rt, "core");
-    let first = order_of(alloc, [0, 1, 2])?.expect(&rt, "order");
-    let second = order_of(alloc, [1, 0, 2])?.expect(&rt, "order");
-    let last = order_of(alloc, [2, 0, 1])?.expect(&rt, "order");
-    assert_eq!(rt; (core.best(), core.bound(), core.live()), (10, 12, 1));
-    assert_eq!(rt;
-        evaluate(alloc, &mut core, 0, &last)?,
-        Some((0, ReportReply::Split(1)))
-    );
-    assert_eq!(rt;
-        evaluate(alloc, &mut core, 7, &last)?,
-        Some((1, ReportReply::Split(3)))
-    );
-    assert_eq!(rt; (core.live(), core.idle_live(), core.nodes()), (3, 3, 5));
-    assert_eq!(rt;
-        evaluate(alloc, &mut core, 0, &second)?,
-        Some((2, ReportReply::Closed))
-    );
-    assert_eq!(rt;
-        evaluate(alloc, &mut core, 0, &first)?,
-        Some((3, ReportReply::Closed))
-    );
-    assert_eq!(rt; (core.bound(), core.evaluated()), (12, 4));
-    assert_eq!(rt;
-        evaluate(alloc, &mut core, 0, &last)?,
-        Some((4, ReportReply::Closed))
-    );
+    for (worker, objects, want, bound, live) in [
+        (0, [2, 0, 1], (0, ReportReply::Split(1)), 12, 2),
+        (7, [2, 0, 1], (1, ReportReply::Split(3)), 12, 3),
+        (0, [1, 0, 2], (2, ReportReply::Closed), 12, 2),
+        (0, [0, 1, 2], (3, ReportReply::Closed), 12, 1),
+        (0, [2, 0, 1], (4, ReportReply::Closed), 10, 0),
+    ] {
+        let order = order_of(alloc, objects)?.expect(&rt, "order");
+        assert_eq!(rt; evaluate(alloc, &mut core, worker, &order)?, Some(want));
+        assert_eq!(rt;
+            (core.bound(), core.live(), core.idle_live()),
+            (bound, live, live)
+        );
+    }
     assert_eq!(rt; take(alloc, &mut core, 0)?, TakeReply::Done);
-    assert_eq!(rt; (core.best(), core.bound(), core.evaluated()), (10, 10, 5));
     assert_eq!(rt;
-        (core.live(), core.idle_live(), core.nodes(), core.budget()),
-        (0, 0, 5, 10_000)
+        (core.best(), core.evaluated(), core.nodes(), core.budget()),
+        (10, 5, 5, 10_000)
     );
-    assert_eq!(rt; extends(core.best_order(), &[pair(0, 1), pair(1, 2)]), true);
+    assert!(rt; extends(core.best_order(), &[pair(0, 1), pair(1, 2)]));
     assert_eq!(rt; core.journal().len(), 10);
+    assert_eq!(rt;
+        core.journal().get(2).copied(),
+        Some(Entry::Take { worker: 7, node: 1 })
+    );
     let reversed = NodeView {
         parent: 0,
         pair: pair(1, 0),
@@ -187,10 +178,6 @@ fn a_whole_search_by_hand(rt: HostRuntime) -> Result<(), Fail> {
         terms: 0,
     };
     assert_eq!(rt; node(&core, 2), Some(reversed));
-    assert_eq!(rt;
-        core.journal().get(2).copied(),
-        Some(Entry::Take { worker: 7, node: 1 })
-    );
     Ok(())
 }
 

@@ -1,0 +1,353 @@
+-- A core keeps its history over a take and a report, and it has room for the entry and the nodes.
+use Rattle.std.proofs.Common.{◌≡◌, ℕ, ◌+◌, ◌*◌, ◌<◌, ◌≤◌, List, [], ◌∷◌, ◌++◌, length, get_or, set, arith, sym, ◌∙◌, Some, None, Option, refl, ap, subst, Bool, true, false}
+use Rattle.std.proofs.lemmas.List.{get_or_read, length_push}
+use Rattle.std.proofs.lemmas.Option.{slice_get_read, get_or_from_slice_get, slice_get_within}
+use Rattle.std.specs.Prelude.{slice_get, ℤ, pos, ◌≤ℤ◌, fold, int_lt, IfSome, IfNone, if◌then◌else◌, ◌↔◌}
+use Rattle.std.specs.Int.{int_max}
+use Rattle.std.proofs.lemmas.Int.{ints, clamps}
+use Rattle.lop_model.specs.declared.pair.Pair.{Pair}
+use Rattle.lop_model.specs.Order.{IsOrder}
+use Rattle.lop_model.specs.Matrix.{Matrix, weight}
+use Rattle.lop_model.specs.Fixings.{IsClosure, IsUndecided, IsBranchingPath, AreAllDecided}
+use Rattle.lop_model.specs.Bound.{pair_bound}
+use Rattle.lop_leaf.specs.Record.{ScaledTerms, no_terms}
+use Rattle.lop_leaf.specs.Ticket.{TicketFields, pair_count}
+use Rattle.lop_leaf.specs.Sound.{Certifies, IsDecidedResult}
+use Rattle.lop_leaf.proofs.PathLemmas.{weight-le-certified}
+use Rattle.lop_core.proofs.Lists.{EachFollows-nil, slice_get-set_same}
+use Rattle.lop_core.proofs.TreeLemmas.{paths-changed}
+use Rattle.lop_core.specs.declared.node.SearchNode.{SearchNode}
+use Rattle.lop_core.specs.declared.journal.Entry.{Entry}
+use Rattle.lop_core.specs.declared.journal.Entry.TheVariants.{Take, Report}
+use Rattle.lop_core.specs.declared.node.Standing.{Standing}
+use Rattle.lop_core.specs.declared.node.Standing.TheVariants.{Idle, Out}
+use Rattle.lop_leaf.specs.Evaluated.{EvaluatedFields}
+use Rattle.lop_core.specs.Tree.{no_pair, child, node_at, path_of, is_out, out_count, IsCoveredOnce}
+use Rattle.lop_core.specs.Machine.{Problem, SearchState, changed, after, settled, divided, closed, settled_nodes, IsOutTo, IsReady, IsLive, IsFirstReady, raised_by, state_bound}
+use Rattle.lop_core.specs.Journal.{AreCounted, MayTake, MayReport, MayFollow, HasTake, HasReport, entries_of}
+use Rattle.lop_core.specs.Core.{CoreFields, prepared, HasHistory, AreCertified, with_entry, IsTicketOf, IsHandedOut, IsSoundReport, ticket_of, entry_of, KeepsOrder}
+use Rattle.lop_core.proofs.Replay.{replay_push, IsLawful_push, sound_replay, covered_once, weight-le-state_bound}
+use Rattle.lop_core.proofs.Fates.{out_exactly}
+use Rattle.lop_core.proofs.Sound.{count_changed, one_if}
+use Rattle.lop_core.proofs.PathRoom.{length-branching}
+use Rattle.lop_core.proofs.Certified.{certified_root, certified_changed, certified_settled}
+use Rattle.lop_core.proofs.Counts.{counted}
+
+-- what holds of the counts of a core
+pub core_counted : (view : CoreFields) → HasHistory view → AreCounted view.problem view.state view.journal
+core_counted view h = subst (λ (s : SearchState). AreCounted view.problem s view.journal) (sym h.replayed) (counted view.problem view.journal h.lawful)
+
+with_entry_true : (view : CoreFields) (e : Entry) (order : List ℕ) → HasHistory view → MayFollow view.problem view.journal e → IsOrder view.problem.weights.size order
+    → weight view.problem.weights order ≡ (after view.state e).best → HasHistory (with_entry view e order)
+with_entry_true view e order h may is weighs = record {
+  lawful = IsLawful_push view.problem view.journal e h.lawful may;
+  replayed = ap (λ (s : SearchState). after s e) h.replayed ∙ sym (replay_push view.problem view.journal e);
+  is_order = is;
+  weighs = weighs;
+}
+
+same_best : (s : SearchState) (w i : ℕ) → (after s (Take w i)).best ≡ s.best
+unfolding after
+same_best s w i = refl
+
+pub core_take : (view : CoreFields) (w i : ℕ) → HasHistory view → MayTake view.problem view.state i → HasHistory (with_entry view (Take w i) view.order)
+core_take view w i h may =
+    with_entry_true view (Take w i) view.order h (subst (λ (s : SearchState). MayTake view.problem s i) h.replayed may) h.is_order (h.weighs ∙ sym (same_best view.state w i))
+
+-- the nodes that a take leaves, and how many are out
+pub take_nodes : (s : SearchState) (w i : ℕ) → after s (Take w i) ≡ record s { nodes = changed s.nodes i (node_at s.nodes i).bound (Out w) }
+unfolding after
+take_nodes s w i = refl
+
+pub take_outs : (problem : Problem) (s : SearchState) (w i : ℕ) → MayTake problem s i → out_count (changed s.nodes i (node_at s.nodes i).bound (Out w)) ≡ out_count s.nodes + 1
+take_outs problem s w i may =
+    let idle : one_if (is_out may.ready.it.standing) ≡ 0 = ap (λ x. one_if (is_out x)) may.ready.idle in
+    omega (arith, count_changed is_out s.nodes i may.ready.it (node_at s.nodes i).bound (Out w) may.ready.is_there)
+
+pub may_take : (problem : Problem) (s : SearchState) (i out : ℕ) (seen : List SearchNode) (best : ℤ) → seen ≡ s.nodes → best ≡ s.best → out ≡ out_count s.nodes
+    → IsReady seen best i → s.evaluated + out < problem.budget → MayTake problem s i
+may_take problem s i out seen best e b o ready lt = record {
+  ready = subst (λ (ns : List SearchNode). IsReady ns s.best i) e (subst (λ (z : ℤ). IsReady seen z i) b ready);
+  within = omega arith;
+}
+
+-- a write of a standing where the node was read
+pub written : (nodes : List SearchNode) (i : ℕ) (x : SearchNode) (bound : ℤ) (standing : Standing) → i < length nodes → x ≡ get_or nodes i x
+    → set nodes i (record x { bound = bound; standing = standing }) ≡ changed nodes i bound standing
+written nodes i x bound standing lt e =
+    ap (λ (y : SearchNode). set nodes i (record y { bound = bound; standing = standing })) (get_or_read nodes i x lt e (child 0 no_pair (pos 0)))
+
+pub written_out : (nodes : List SearchNode) (i w : ℕ) (x : SearchNode) → i < length nodes → x ≡ get_or nodes i x
+    → set nodes i (record x { standing = Out w }) ≡ changed nodes i (node_at nodes i).bound (Out w)
+written_out nodes i w x lt e =
+    ap (λ (y : SearchNode). set nodes i (record y { standing = Out w })) (get_or_read nodes i x lt e (child 0 no_pair (pos 0)))
+
+pub take_view : (view : CoreFields) (w i : ℕ) (nodes : List SearchNode) (journal : List Entry) → nodes ≡ changed view.state.nodes i (node_at view.state.nodes i).bound (Out w)
+    → journal ≡ view.journal ++ Take w i ∷ [] → record view { state = record view.state { nodes = nodes }; journal = journal } ≡ with_entry view (Take w i) view.order
+take_view view w i nodes journal en ej =
+    ap (λ (ns : List SearchNode). record view { state = record view.state { nodes = ns }; journal = journal }) en
+    ∙ (ap (λ (j : List Entry). record view { state = record view.state { nodes = changed view.state.nodes i (node_at view.state.nodes i).bound (Out w) }; journal = j }) ej
+    ∙ ap (λ (s : SearchState). record view { state = s; journal = view.journal ++ Take w i ∷ [] }) (sym (take_nodes view.state w i)))
+
+pub live_in : (s : SearchState) (k : ℕ) (seen : List SearchNode) (best : ℤ) → seen ≡ s.nodes → best ≡ s.best → IsLive seen best k → IsLive s.nodes s.best k
+live_in s k seen best e b live = subst (λ (ns : List SearchNode). IsLive ns s.best k) e (subst (λ (z : ℤ). IsLive seen z k) b live)
+
+pub never_live : (s : SearchState) (seen : List SearchNode) (best : ℤ) → seen ≡ s.nodes → best ≡ s.best → ((node : ℕ) → ¬ (IsLive seen best node)) → (node : ℕ) → ¬ (IsLive s.nodes s.best node)
+never_live s seen best e b none = subst (λ (ns : List SearchNode). (node : ℕ) → ¬ (IsLive ns s.best node)) e (subst (λ (z : ℤ). (node : ℕ) → ¬ (IsLive seen z node)) b none)
+
+pub never_ready : (s : SearchState) (seen : List SearchNode) (best : ℤ) → seen ≡ s.nodes → best ≡ s.best → ((node : ℕ) → ¬ (IsReady seen best node)) → (node : ℕ) → ¬ (IsReady s.nodes s.best node)
+never_ready s seen best e b none = subst (λ (ns : List SearchNode). (node : ℕ) → ¬ (IsReady ns s.best node)) e (subst (λ (z : ℤ). (node : ℕ) → ¬ (IsReady seen z node)) b none)
+
+-- the paths of a core's nodes are branching paths
+pub core_branching : (core : CoreFields) → HasHistory core → (i : ℕ) → i < length core.state.nodes → IsBranchingPath core.problem.weights.size (path_of core.state.nodes i)
+core_branching core h = subst (λ (s : SearchState). (i : ℕ) → i < length s.nodes → IsBranchingPath core.problem.weights.size (path_of s.nodes i)) (sym h.replayed)
+    (sound_replay core.problem core.journal h.lawful).lawful
+
+-- what a sound report shows: its bound is the pair bound under the node's path
+reported_bound : (core : CoreFields) (found : EvaluatedFields) → IsSoundReport core found → (G : List Pair) → IsClosure (path_of core.state.nodes found.node) G → found.bound ≡ pair_bound core.problem.weights G
+reported_bound core found r G c = r.sound.bound G (subst (λ (p : List Pair). IsClosure p G) (sym r.is_of.path) c)
+
+reported_certified : (core : CoreFields) (found : EvaluatedFields) → IsSoundReport core found → Certifies core.problem.weights (path_of core.state.nodes found.node) found.bound
+reported_certified core found r = record { each = λ G c. let same : found.bound ≡ pair_bound core.problem.weights G = reported_bound core found r G c in omega (arith, ints) }
+
+decided_value : (core : CoreFields) (found : EvaluatedFields) (path : List Pair) (pair : Option Pair) (t : TicketFields) → t.path ≡ path → IfNone pair (IsDecidedResult core.problem.weights t found)
+    → IfNone pair (AreAllDecided core.problem.weights.size path × (found.value ≡ found.bound))
+decided_value core found path None t e d = (subst (AreAllDecided core.problem.weights.size) e d.decided, d.exact)
+decided_value core found path (Some p) t e d = tt
+
+undecided_pair : (n : ℕ) (path path' : List Pair) (pair : Option Pair) → path ≡ path' → IfSome pair (λ p. IsUndecided n path p.before p.after) → IfSome pair (λ p. IsUndecided n path' p.before p.after)
+undecided_pair n path path' None e u = tt
+undecided_pair n path path' (Some p) e u = subst (λ (q : List Pair). IsUndecided n q p.before p.after) e u
+
+reported_undecided : (core : CoreFields) (found : EvaluatedFields) → IsSoundReport core found → IfSome found.pair (λ p. IsUndecided core.problem.weights.size (path_of core.state.nodes found.node) p.before p.after)
+reported_undecided core found r = undecided_pair core.problem.weights.size r.ticket.path (path_of core.state.nodes found.node) found.pair r.is_of.path r.sound.undecided
+
+-- a sound report may come
+may_report : (core : CoreFields) (w : ℕ) (found : EvaluatedFields) → HasHistory core → IsOutTo core.state w found.node → IsSoundReport core found
+    → MayReport core.problem core.state w found.node found.bound found.pair found.value true
+may_report core w found h out r =
+    let path : List Pair = path_of core.state.nodes found.node in
+    let lt : found.node < length core.state.nodes = slice_get_within core.state.nodes found.node out.0 out.1 in
+    record {
+      is_out = out;
+      no_more = subst (λ (b : ℤ). found.bound ≤ℤ b) r.is_of.bound r.sound.no_more;
+      yardstick = λ G c. let same : found.bound ≡ pair_bound core.problem.weights G = reported_bound core found r G c in omega (arith, ints);
+      holds = λ s o x. weight-le-certified core.problem.weights (path_of core.state.nodes found.node) found.bound s (core_branching core h found.node lt) (reported_certified core found r) o x;
+      attained = record { order = found.order; is_order = r.sound.order; weighs = sym r.sound.value };
+      undecided = reported_undecided core found r;
+      all_decided = decided_value core found (path_of core.state.nodes found.node) found.pair r.ticket r.is_of.path r.sound.all_decided;
+      with_room = refl;
+    }
+
+-- the state after a report that found room
+report_after : (s : SearchState) (w : ℕ) (found : EvaluatedFields) → after s (entry_of w found)
+    ≡ record { nodes = settled_nodes s.nodes found.node found.bound (int_max s.best found.value) found.pair; best = int_max s.best found.value; evaluated = s.evaluated + 1 }
+unfolding after
+report_after s w found = go found.pair where
+  go : (p : Option Pair) → settled s found.node found.bound (int_max s.best found.value) p
+      ≡ record { nodes = settled_nodes s.nodes found.node found.bound (int_max s.best found.value) p; best = int_max s.best found.value; evaluated = s.evaluated + 1 }
+  go None = refl
+  go (Some p) = test (int_lt (int_max s.best found.value) found.bound) where
+    test : (b : Bool) → (if b then divided s found.node found.bound (int_max s.best found.value) p else closed s found.node found.bound (int_max s.best found.value))
+        ≡ record {
+          nodes = (if b then divided (record { nodes = s.nodes; best = int_max s.best found.value; evaluated = 0 }) found.node found.bound (int_max s.best found.value) p else closed (record { nodes = s.nodes; best = int_max s.best found.value; evaluated = 0 }) found.node found.bound (int_max s.best found.value)).nodes;
+          best = int_max s.best found.value;
+          evaluated = s.evaluated + 1;
+        }
+    test true = refl
+    test false = refl
+
+-- the order that is kept has the greater weight
+kept_weighs : (C : Matrix) (best value : ℤ) (old new : List ℕ) → weight C old ≡ best → weight C new ≡ value
+    → weight C (if int_lt best value then new else old) ≡ int_max best value
+kept_weighs C best value old new ho hn = go (int_lt best value) refl where
+  go : (b : Bool) → int_lt best value ≡ b → weight C (if b then new else old) ≡ int_max best value
+  go true t = let e : value ≡ int_max best value = grind (arith, ints, clamps) in hn ∙ e
+  go false f = let e : best ≡ int_max best value = grind (arith, ints, clamps) in ho ∙ e
+
+kept_is_order : (n : ℕ) (b : Bool) (old new : List ℕ) → IsOrder n old → IsOrder n new → IsOrder n (if b then new else old)
+kept_is_order n true old new ho hn = hn
+kept_is_order n false old new ho hn = ho
+
+pub kept_order : (old : CoreFields) (found : EvaluatedFields) → KeepsOrder old found (if int_lt old.state.best found.value then found.order else old.order)
+kept_order old found = go (int_lt old.state.best found.value) refl where
+  go : (b : Bool) → int_lt old.state.best found.value ≡ b → KeepsOrder old found (if b then found.order else old.order)
+  go true t = record { better = λ h. refl; other = λ h. absurd (grind (arith, ints)) }
+  go false f = record { better = λ h. absurd (grind (arith, ints)); other = λ h. refl }
+
+abbrev pub better_of : CoreFields → EvaluatedFields → List ℕ
+better_of view found = if int_lt view.state.best found.value then found.order else view.order
+
+pub core_report : (view : CoreFields) (w : ℕ) (found : EvaluatedFields) → HasHistory view → IsOutTo view.state w found.node → IsSoundReport view found
+    → HasHistory (with_entry view (entry_of w found) (better_of view found))
+core_report view w found h out sound =
+    let may = subst (λ (s : SearchState). MayReport view.problem s w found.node found.bound found.pair found.value true) h.replayed (may_report view w found h out sound) in
+    with_entry_true view (entry_of w found) (better_of view found) h may
+    (kept_is_order view.problem.weights.size (int_lt view.state.best found.value) view.order found.order h.is_order sound.sound.order)
+    (kept_weighs view.problem.weights view.state.best found.value view.order found.order h.weighs (sym sound.sound.value)
+    ∙ sym (ap (λ (s : SearchState). s.best) (report_after view.state w found)))
+
+pub report_view : (view : CoreFields) (w : ℕ) (found : EvaluatedFields) (nodes : List SearchNode) (best : ℤ) (journal : List Entry) (order : List ℕ)
+    → nodes ≡ settled_nodes view.state.nodes found.node found.bound best found.pair → best ≡ int_max view.state.best found.value → journal ≡ view.journal ++ entry_of w found ∷ []
+    → order ≡ better_of view found
+    → record view { state = record { nodes = nodes; best = best; evaluated = view.state.evaluated + 1 }; journal = journal; order = order } ≡ with_entry view (entry_of w found) (better_of view found)
+report_view view w found nodes best journal order en eb ej eo =
+    let en2 : nodes ≡ settled_nodes view.state.nodes found.node found.bound (int_max view.state.best found.value) found.pair =
+    en ∙ ap (λ (b : ℤ). settled_nodes view.state.nodes found.node found.bound b found.pair) eb in
+    ap (λ (x : List SearchNode). record view { state = record { nodes = x; best = best; evaluated = view.state.evaluated + 1 }; journal = journal; order = order }) en2
+    ∙ (ap (λ (b : ℤ). record view { state = record { nodes = settled_nodes view.state.nodes found.node found.bound (int_max view.state.best found.value) found.pair; best = b; evaluated = view.state.evaluated + 1 }; journal = journal; order = order }) eb
+    ∙ (ap (λ (j : List Entry). record view { state = record { nodes = settled_nodes view.state.nodes found.node found.bound (int_max view.state.best found.value) found.pair; best = int_max view.state.best found.value; evaluated = view.state.evaluated + 1 }; journal = j; order = order }) ej
+    ∙ (ap (λ (o : List ℕ). record view { state = record { nodes = settled_nodes view.state.nodes found.node found.bound (int_max view.state.best found.value) found.pair; best = int_max view.state.best found.value; evaluated = view.state.evaluated + 1 }; journal = view.journal ++ entry_of w found ∷ []; order = o }) eo
+    ∙ ap (λ (s : SearchState). record view { state = s; journal = view.journal ++ entry_of w found ∷ []; order = better_of view found }) (sym (report_after view.state w found)))))
+
+-- the counts before and after a report
+pub report_counts : (view : CoreFields) (w n : ℕ) → HasHistory view → IsOutTo view.state w n → 1 ≤ out_count view.state.nodes
+report_counts view w n h out =
+    let one : one_if (is_out out.0.standing) ≡ 1 = ap (λ x. one_if (is_out x)) out.2 in
+    omega (arith, one, count_changed is_out view.state.nodes n out.0 (pos 0) Idle out.1)
+
+pub out_to : (s : SearchState) (w n : ℕ) (x : SearchNode) → n < length s.nodes → x ≡ get_or s.nodes n x → x.standing ≡ Out w → IsOutTo s w n
+out_to s w n x lt e out = (x, slice_get_read s.nodes (length s.nodes) n x refl lt e, out)
+
+pub not_out_to : (s : SearchState) (w n : ℕ) (x : SearchNode) → x ≡ get_or s.nodes n x → ¬ (x.standing ≡ Out w) → ¬ (IsOutTo s w n)
+not_out_to s w n x e never out = never (ap (λ (y : SearchNode). y.standing) (e ∙ get_or_from_slice_get s.nodes n out.0 x out.1) ∙ out.2)
+
+pub not_there : (s : SearchState) (w n : ℕ) → length s.nodes ≤ n → ¬ (IsOutTo s w n)
+not_there s w n le out = let lt : n < length s.nodes = slice_get_within s.nodes n out.0 out.1 in absurd (omega arith)
+
+-- what the code leaves of a report
+pub record Leaves (view : CoreFields) (w : ℕ) (found : EvaluatedFields) (nodes : List SearchNode) (best : ℤ) (journal : List Entry) (order : List ℕ) : Type 0 where
+  pub nodes_are : nodes ≡ settled_nodes view.state.nodes found.node found.bound best found.pair
+  pub best_is : best ≡ int_max view.state.best found.value
+  pub journal_is : journal ≡ view.journal ++ entry_of w found ∷ []
+  pub order_is : order ≡ better_of view found
+
+-- the same by the numbers, the pair and the order as the code passed them on
+pub leaves_by : (view : CoreFields) (w : ℕ) (found : EvaluatedFields) (nodes : List SearchNode) (best : ℤ) (journal : List Entry) (order : List ℕ)
+    (n : ℕ) (zb zv zbest : ℤ) (p : Option Pair) (seen : List ℕ) → n ≡ found.node → zb ≡ found.bound → zv ≡ found.value → zbest ≡ best → p ≡ found.pair → seen ≡ found.order
+    → nodes ≡ settled_nodes view.state.nodes n zb zbest p → best ≡ int_max view.state.best zv → journal ≡ view.journal ++ Report w n zb p zv true ∷ []
+    → order ≡ (if int_lt view.state.best zv then seen else view.order) → Leaves view w found nodes best journal order
+leaves_by view w found nodes best journal order n zb zv zbest p seen en eb ev ebest ep eo hn hb hj ho = record {
+  nodes_are = rw (en, eb, ebest, ep) at hn;
+  best_is = rw ev at hb;
+  journal_is = rw (en, eb, ep, ev) at hj;
+  order_is = rw (ev, eo) at ho;
+}
+
+module _ (view : CoreFields) (w : ℕ) (found : EvaluatedFields) (nodes : List SearchNode) (best : ℤ) (journal : List Entry) (order : List ℕ) (leaves : Leaves view w found nodes best journal order) where
+  left_order : order ≡ better_of view found
+  left_order = leaves.order_is
+
+  left_view : record view { state = record { nodes = nodes; best = best; evaluated = view.state.evaluated + 1 }; journal = journal; order = order } ≡ with_entry view (entry_of w found) (better_of view found)
+  left_view = report_view view w found nodes best journal order leaves.nodes_are leaves.best_is leaves.journal_is leaves.order_is
+
+  pub left_noted : record view { state = record { nodes = nodes; best = best; evaluated = view.state.evaluated + 1 }; journal = journal; order = order } ≡ with_entry view (entry_of w found) order
+  left_noted = left_view ∙ ap (with_entry view (entry_of w found)) (sym left_order)
+
+  pub left_keeps : KeepsOrder view found order
+  left_keeps = subst (KeepsOrder view found) (sym left_order) (kept_order view found)
+
+  pub left_true : HasHistory view → IsOutTo view.state w found.node → IsSoundReport view found
+      → HasHistory (record view { state = record { nodes = nodes; best = best; evaluated = view.state.evaluated + 1 }; journal = journal; order = order })
+  left_true h out sound = subst HasHistory (sym left_view) (core_report view w found h out sound)
+
+  -- one node fewer is out
+  pub left_outs : HasHistory view → IsOutTo view.state w found.node → IsSoundReport view found → out_count view.state.nodes ≡ out_count nodes + 1
+  left_outs h out sound =
+      let before = core_counted view h in
+      let now = core_counted _ (left_true h out sound) in
+      let grown : length journal ≡ length view.journal + 1 = ap length leaves.journal_is ∙ length_push view.journal _ in
+      omega (arith, before.entries, now.entries)
+
+-- each node's record certifies its bound after a take and after a report
+pub take_certified : (core : CoreFields) (w i : ℕ) → AreCertified core.problem.weights core.state.nodes → i < length core.state.nodes
+    → AreCertified core.problem.weights (changed core.state.nodes i (node_at core.state.nodes i).bound (Out w))
+take_certified core w i all lt = certified_changed core.problem.weights core.state.nodes i (node_at core.state.nodes i).bound (Out w) all lt (all i lt)
+
+pub report_certified : (core : CoreFields) (w : ℕ) (found : EvaluatedFields) (best : ℤ) → HasHistory core → AreCertified core.problem.weights core.state.nodes → IsOutTo core.state w found.node → IsSoundReport core found
+    → AreCertified core.problem.weights (settled_nodes core.state.nodes found.node found.bound best found.pair)
+report_certified core w found best h all out r =
+    let lt : found.node < length core.state.nodes = slice_get_within core.state.nodes found.node out.0 out.1 in
+    certified_settled core.problem.weights core.state.nodes found.node found.bound best all lt (core_branching core h found.node lt) (reported_certified core found r) found.pair (reported_undecided core found r)
+
+-- the laws of a core
+pub core_covered : (core : CoreFields) → HasHistory core → (s : List ℕ) → IsOrder core.problem.weights.size s → IsCoveredOnce core.state.nodes s
+core_covered core h s o = subst (λ (t : SearchState). IsCoveredOnce t.nodes s) (sym h.replayed) (covered_once core.problem core.journal h.lawful s o)
+
+pub core_bound : (core : CoreFields) → HasHistory core → (s : List ℕ) → IsOrder core.problem.weights.size s → weight core.problem.weights s ≤ℤ state_bound core.state
+core_bound core h s o = subst (λ (t : SearchState). weight core.problem.weights s ≤ℤ state_bound t) (sym h.replayed) (weight-le-state_bound core.problem core.journal h.lawful s o)
+
+pub core_out : (core : CoreFields) (w n : ℕ) → HasHistory core → IsOutTo core.state w n ↔ (HasTake n (entries_of w core.journal) × ¬ (HasReport n (entries_of w core.journal)))
+core_out core w n h = subst (λ (t : SearchState). IsOutTo t w n ↔ (HasTake n (entries_of w core.journal) × ¬ (HasReport n (entries_of w core.journal)))) (sym h.replayed)
+    (out_exactly core.problem core.journal w n h.lawful)
+
+pub prepared_true : (problem : Problem) (order : List ℕ) → IsOrder problem.weights.size order → weight problem.weights order ≡ problem.start → HasHistory (prepared problem order)
+prepared_true problem order o w = record {
+  lawful = record { start = record { order = order; is_order = o; weighs = w }; each = EachFollows-nil (MayFollow problem) };
+  replayed = refl;
+  is_order = o;
+  weighs = w;
+}
+
+-- what a core that was just made keeps
+pub made : (C C0 : Matrix) (budget : ℕ) (start : ℤ) (nodes : List SearchNode) (journal : List Entry) (order order0 : List ℕ) → C ≡ C0 → start ≡ weight C0 order0 → IsOrder C0.size order0
+    → nodes ≡ child 0 no_pair (pair_bound C0 []) ∷ [] → journal ≡ [] → order ≡ order0
+    → HasHistory (record { problem = record { weights = C; start = start; budget = budget }; state = record { nodes = nodes; best = start; evaluated = 0 }; journal = journal; order = order })
+    × AreCertified C nodes × (0 ≡ out_count nodes)
+made C C0 budget start nodes journal order order0 eC es o en ej eo =
+    let problem : Problem = record { weights = C0; start = start; budget = budget } in
+    rw (en, ej, eo, eC) (prepared_true (record { weights = C0; start = start; budget = budget }) order0 o (sym es), certified_root C0, refl)
+
+-- the number of nodes, of which no more than twice the budget came after the root
+pub core_nodes : (core : CoreFields) → HasHistory core → length core.state.nodes ≤ 2 * core.problem.budget + 1
+core_nodes core h = let k = core_counted core h in omega (arith, k.size, k.splits, k.within)
+
+-- the path of each node fits a path's room
+pub core_path_length : (core : CoreFields) → HasHistory core → (i : ℕ) → i < length core.state.nodes → length (path_of core.state.nodes i) ≤ pair_count core.problem.weights.size
+core_path_length core h i lt = length-branching core.problem.weights.size (path_of core.state.nodes i) (core_branching core h i lt)
+
+-- the first of the best, as the state sees it
+pub first_in : (s : SearchState) (k : ℕ) (seen : List SearchNode) (best : ℤ) → seen ≡ s.nodes → best ≡ s.best → IsFirstReady seen best k → IsFirstReady s.nodes s.best k
+first_in s k seen best e b first = subst (λ (ns : List SearchNode). IsFirstReady ns s.best k) e (subst (λ (z : ℤ). IsFirstReady seen z k) b first)
+
+-- what was written into the ticket is the node's ticket
+pub ticket_is : (core : CoreFields) (i size : ℕ) (seen : List SearchNode) (best : ℤ) (inherited : ScaledTerms) (ticket : TicketFields)
+    → seen ≡ core.state.nodes → size ≡ core.problem.weights.size → best ≡ core.state.best → inherited ≡ no_terms
+    → ticket ≡ record { size = size; node = i; bound = (node_at seen i).bound; best = best; path = path_of seen i; inherited = inherited } → ticket ≡ ticket_of core i
+ticket_is core i size seen best inherited ticket en es eb ei e = rw (en, es, eb, ei) at e
+
+-- the step of a take, by the ticket
+pub take_step : (core new : CoreFields) (w i : ℕ) (ticket : TicketFields) → MayTake core.problem core.state i → new ≡ with_entry core (Take w i) core.order → ticket ≡ ticket_of core i
+    → MayTake core.problem core.state ticket.node × (new ≡ with_entry core (Take w ticket.node) core.order) × (ticket ≡ ticket_of core ticket.node)
+take_step core new w i ticket may view e =
+    subst (λ (k : ℕ). MayTake core.problem core.state k × (new ≡ with_entry core (Take w k) core.order) × (ticket ≡ ticket_of core k)) (sym (ap (λ (t : TicketFields). t.node) e)) (may, view, e)
+
+module _ (core : CoreFields) (w i : ℕ) (lt : i < length core.state.nodes) where
+  -- a take changes the standing of its node alone
+  taken_there : slice_get (changed core.state.nodes i (node_at core.state.nodes i).bound (Out w)) i ≡ Some (record (node_at core.state.nodes i) { standing = Out w })
+  taken_there = slice_get-set_same core.state.nodes i _ lt
+
+  taken_ticket : IsTicketOf (with_entry core (Take w i) core.order) i (ticket_of core i)
+  taken_ticket = rw (take_nodes core.state w i) (record {
+    bound = ap (λ (m : SearchNode). m.bound) (sym (get_or_from_slice_get (changed core.state.nodes i (node_at core.state.nodes i).bound (Out w)) i _ _ taken_there));
+    path = ap (λ (ps : List (List Pair)). get_or ps i []) (sym (paths-changed core.state.nodes i (node_at core.state.nodes i).bound (Out w) lt));
+  })
+
+  taken_out : IsOutTo (with_entry core (Take w i) core.order).state w i
+  taken_out = rw (take_nodes core.state w i) (record (node_at core.state.nodes i) { standing = Out w }, taken_there, refl)
+
+-- what a take promises of its ticket
+pub take_on_node : (core new : CoreFields) (w i : ℕ) (ticket : TicketFields) → HasHistory core → AreCertified core.problem.weights core.state.nodes → i < length core.state.nodes
+    → new ≡ with_entry core (Take w i) core.order → ticket ≡ ticket_of core i → IsFirstReady core.state.nodes core.state.best i → IsHandedOut core w new ticket
+take_on_node core new w i ticket h all lt en e first =
+    let own : IsHandedOut core w (with_entry core (Take w i) core.order) (ticket_of core i) = record {
+      sound = record { same_size = refl; branching = core_branching core h i lt; certified = all i lt };
+      is_of = taken_ticket core w i lt;
+      is_out = taken_out core w i lt;
+      first = first;
+    } in
+    subst (λ (v : CoreFields). IsHandedOut core w v ticket) (sym en) (subst (λ (t : TicketFields). IsHandedOut core w (with_entry core (Take w i) core.order) t) (sym e) own)
+
+-- the answer of the scan is the state's bound
+pub bound_found : (s : SearchState) (seen : List SearchNode) (best z z' : ℤ) → seen ≡ s.nodes → best ≡ s.best → z' ≡ z → z ≡ fold raised_by best seen → z' ≡ state_bound s
+bound_found s seen best z z' en eb ez e = ez ∙ (rw (en, eb) at e)

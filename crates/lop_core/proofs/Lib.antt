@@ -1,0 +1,15 @@
+pub mod Lists
+pub mod ExtensionLemmas
+pub mod TreeLemmas
+pub mod Sound
+pub mod Replay
+pub mod Fates
+pub mod Counts
+pub mod Linked
+pub mod Scans
+pub mod Certified
+pub mod PathRoom
+pub mod CoreLemmas
+pub mod Extensions
+pub mod NodeCount
+pub mod JudgeLemmas

@@ -1,0 +1,21 @@
+use Rattle.std.proofs.Common.{rules, FitsSigned}
+use Rattle.std.proofs.lemmas.Int.{to_z-of_z}
+use mir.Syntax.{w128}
+use Rattle.lop_core.specs.contracts.search.Core.{the_view}
+use Rattle.lop_core.proofs.Replay.{raised-le}
+use Rattle.lop_core.proofs.CoreLemmas.{bound_found, core_bound}
+use Rattle.lop_core.proofs.search.Core.bound.Goals as goal
+
+pub returns-clause-bounds : goal.returns-clause-bounds
+returns-clause-bounds c =
+    let f : FitsSigned w128 c.self.inside.best = search rules in
+    let g : FitsSigned w128 c.greatest_bound.result = search rules in
+    let e = bound_found (the_view c.self.inside).state c.deref.result.now _ c.greatest_bound.result _ c.deref.ensures.value (to_z-of_z w128 c.self.inside.best f) (to_z-of_z w128 c.greatest_bound.result g) c.greatest_bound.ensures in
+    rw (← c.self.view_is, e) (core_bound (the_view c.self.inside) c.self.invariant.0)
+
+pub returns-clause-at_least_best : goal.returns-clause-at_least_best
+returns-clause-at_least_best c =
+    let f : FitsSigned w128 c.self.inside.best = search rules in
+    let g : FitsSigned w128 c.greatest_bound.result = search rules in
+    let e = bound_found (the_view c.self.inside).state c.deref.result.now _ c.greatest_bound.result _ c.deref.ensures.value (to_z-of_z w128 c.self.inside.best f) (to_z-of_z w128 c.greatest_bound.result g) c.greatest_bound.ensures in
+    rw (← c.self.view_is, e) (raised-le c.self.inside.nodes.items c.self.inside.best)

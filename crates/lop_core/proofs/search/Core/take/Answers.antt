@@ -1,0 +1,126 @@
+use Rattle.std.proofs.Common.{rules, ◌≡◌, ℕ, ◌+◌, ◌<◌, List, length, arith, sym, ◌∙◌, ap, subst, refl, FitsSigned}
+use Rattle.std.proofs.lemmas.Int.{to_z-of_z}
+use Rattle.std.proofs.lemmas.Option.{slice_get_within}
+use mir.Syntax.{w128}
+use Rattle.lop_core.specs.declared.node.SearchNode.{SearchNode}
+use Rattle.lop_core.specs.Tree.{AreLinked, out_count}
+use Rattle.lop_core.specs.Core.{CoreFields, HasHistory, AreCertified}
+use Rattle.lop_core.specs.contracts.search.Core.{the_view}
+use Rattle.lop_core.proofs.Linked.{core_linked}
+use Rattle.lop_core.proofs.CoreLemmas.{core_counted, core_take, core_path_length, may_take, written_out, take_view, take_outs, take_certified, take_step, take_on_node, ticket_is, first_in, live_in, never_live, never_ready}
+use Rattle.lop_core.proofs.search.Core.take.Goals as goal
+use Rattle.lop_core.proofs.search.Core.take.Goals.{in-Some-first_live, in-None}
+
+pub returns-in_default-clause-step : goal.returns-in_default-clause-step
+returns-in_default-clause-step c =
+    let f : FitsSigned w128 c.self.inside.best = search rules in
+    let b = to_z-of_z w128 c.self.inside.best f in
+    elim c.match-first_live.branch [
+      | in-Some-first_live w ↦ rw (w.result-is, ← c.self.view_is) (
+        (w.in-Some-first_live.field-0, live_in (the_view c.self.inside).state w.in-Some-first_live.field-0 c.deref-in_default.result.now _ c.deref-in_default.ensures.value b w.in-Some-first_live.ensures.found),
+        never_ready (the_view c.self.inside).state c.deref.result.now _ c.deref.ensures.value b c.in_default.ensures.none,
+        (refl, refl),
+      )
+      | in-None w ↦ rw (w.result-is, ← c.self.view_is) (never_live (the_view c.self.inside).state c.deref-in_default.result.now _ c.deref-in_default.ensures.value b w.in-None.ensures.none, (refl, refl))
+    ]
+
+pub overflow_add-self-inside : goal.overflow_add-self-inside
+overflow_add-self-inside c =
+    let h = core_counted _ c.self.invariant.0 in
+    omega (arith, h.within, c.self.invariant.2.within_limit, c.self.invariant.3)
+
+pub overflow_cast-node : goal.overflow_cast-node
+overflow_cast-node c =
+    let h = core_counted _ c.self.invariant.0 in
+    let r = c.in-Some.ensures.found.ready in
+    let lt : c.in-Some.index < length c.deref.result.now = slice_get_within c.deref.result.now c.in-Some.index r.it r.is_there in
+    let d : length c.deref.result.now ≡ length c.self.inside.nodes.items = ap length c.deref.ensures.value in
+    omega (arith, h.size, h.splits, h.within, c.self.invariant.2.within_limit)
+
+pub fill_ticket-requires-clause-linked : goal.fill_ticket-requires-clause-linked
+fill_ticket-requires-clause-linked c = subst AreLinked (sym c.deref-2.ensures.value) (core_linked _ c.self.invariant.0)
+
+pub fill_ticket-requires-clause-inside : goal.fill_ticket-requires-clause-inside
+fill_ticket-requires-clause-inside c =
+    let r = c.in-Some.ensures.found.ready in
+    let lt : c.in-Some.index < length c.deref.result.now = slice_get_within c.deref.result.now c.in-Some.index r.it r.is_there in
+    omega (arith, ap length c.deref.ensures.value, ap length c.deref-2.ensures.value)
+
+pub fill_ticket-requires-clause-room : goal.fill_ticket-requires-clause-room
+fill_ticket-requires-clause-room c =
+    let r = c.in-Some.ensures.found.ready in
+    let lt : c.in-Some.index < length c.deref.result.now = slice_get_within c.deref.result.now c.in-Some.index r.it r.is_there in
+    let d : length c.deref.result.now ≡ length c.self.inside.nodes.items = ap length c.deref.ensures.value in
+    let most = core_path_length _ c.self.invariant.0 c.in-Some.index (omega arith) in
+    rw c.deref-2.ensures.value (omega (arith, most, c.self.invariant.2.for_path))
+
+pub fill_ticket-requires-clause-ticket_room : goal.fill_ticket-requires-clause-ticket_room
+fill_ticket-requires-clause-ticket_room c =
+    let r = c.in-Some.ensures.found.ready in
+    let lt : c.in-Some.index < length c.deref.result.now = slice_get_within c.deref.result.now c.in-Some.index r.it r.is_there in
+    let d : length c.deref.result.now ≡ length c.self.inside.nodes.items = ap length c.deref.ensures.value in
+    let most = core_path_length _ c.self.invariant.0 c.in-Some.index (omega arith) in
+    rw (c.deref-2.ensures.value, c.requires.same_n, ← c.self.view_is) most
+
+pub index_mut-requires : goal.index_mut-requires
+index_mut-requires c =
+    let r = c.in-Some.ensures.found.ready in
+    let lt : c.in-Some.index < length c.deref.result.now = slice_get_within c.deref.result.now c.in-Some.index r.it r.is_there in
+    omega (arith, c.deref.ensures.len)
+
+pub put_last-requires : goal.put_last-requires
+put_last-requires c =
+    let h = core_counted _ c.self.invariant.0 in
+    omega (arith, h.entries, h.within, c.self.invariant.2.for_entries, c.self.invariant.3)
+
+pub invariant_of-self : goal.invariant_of-self
+invariant_of-self c =
+    let r = c.in-Some.ensures.found.ready in
+    let f : FitsSigned w128 c.self.inside.best = search rules in
+    let may = may_take (the_view c.self.inside).problem (the_view c.self.inside).state c.in-Some.index c.self.inside.out c.deref.result.now _ c.deref.ensures.value (to_z-of_z w128 c.self.inside.best f) c.self.invariant.3 r c.if-self.false in
+    let d : length c.deref.result.now ≡ length c.self.inside.nodes.items = ap length c.deref.ensures.value in
+    let lt : c.in-Some.index < length c.deref.result.now = slice_get_within c.deref.result.now c.in-Some.index r.it r.is_there in
+    let inside : c.in-Some.index < length c.self.inside.nodes.items = omega arith in
+    let nodes = written_out c.self.inside.nodes.items c.in-Some.index c.args.worker c.index_mut.result.now inside c.index_mut.ensures.value in
+    let history = core_take _ c.args.worker c.in-Some.index c.self.invariant.0 may in (
+      subst HasHistory (sym (take_view _ c.args.worker c.in-Some.index _ _ nodes c.put_last.ensures.items)) history,
+      subst (λ (ns : List SearchNode). AreCertified c.self.inside.weights ns) (sym nodes)
+          (take_certified (the_view c.self.inside) c.args.worker c.in-Some.index c.self.invariant.1 inside),
+      record {
+        positive = c.self.invariant.2.positive;
+        within_limit = c.self.invariant.2.within_limit;
+        for_nodes = c.self.invariant.2.for_nodes;
+        for_entries = omega (arith, c.self.invariant.2.for_entries, c.put_last.ensures.room);
+        for_path = omega (arith, c.self.invariant.2.for_path, c.fill_ticket.ensures.room);
+      },
+      ap (λ (k : ℕ). k + 1) c.self.invariant.3 ∙ (sym (take_outs _ _ c.args.worker c.in-Some.index may) ∙ sym (ap out_count nodes)),
+      c.self.invariant.4,
+    )
+
+pub returns-clause-step : goal.returns-clause-step
+returns-clause-step c =
+    let r = c.in-Some.ensures.found.ready in
+    let f : FitsSigned w128 c.self.inside.best = search rules in
+    let best = to_z-of_z w128 c.self.inside.best f in
+    let may = may_take (the_view c.self.inside).problem (the_view c.self.inside).state c.in-Some.index c.self.inside.out c.deref.result.now _ c.deref.ensures.value best c.self.invariant.3 r c.if-self.false in
+    let d : length c.deref.result.now ≡ length c.self.inside.nodes.items = ap length c.deref.ensures.value in
+    let lt : c.in-Some.index < length c.deref.result.now = slice_get_within c.deref.result.now c.in-Some.index r.it r.is_there in
+    let nodes = written_out c.self.inside.nodes.items c.in-Some.index c.args.worker c.index_mut.result.now (omega arith) c.index_mut.ensures.value in
+    let size = c.requires.same_n ∙ sym (ap (λ (v : CoreFields). v.problem.weights.size) c.self.view_is) in
+    let ticket = ticket_is (the_view c.self.inside) c.in-Some.index _ c.deref-2.result.now _ _ c.fill_ticket.new.into c.deref-2.ensures.value size best c.self.invariant.4 c.fill_ticket.ensures.ticket in
+    rw (← c.self.view_is) (take_step (the_view c.self.inside) _ c.args.worker c.in-Some.index c.fill_ticket.new.into may (take_view _ c.args.worker c.in-Some.index _ _ nodes c.put_last.ensures.items) ticket)
+
+pub returns-clause-on_node : goal.returns-clause-on_node
+returns-clause-on_node c =
+    let r = c.in-Some.ensures.found.ready in
+    let f : FitsSigned w128 c.self.inside.best = search rules in
+    let best = to_z-of_z w128 c.self.inside.best f in
+    let d : length c.deref.result.now ≡ length c.self.inside.nodes.items = ap length c.deref.ensures.value in
+    let lt : c.in-Some.index < length c.deref.result.now = slice_get_within c.deref.result.now c.in-Some.index r.it r.is_there in
+    let inside : c.in-Some.index < length c.self.inside.nodes.items = omega arith in
+    let nodes = written_out c.self.inside.nodes.items c.in-Some.index c.args.worker c.index_mut.result.now inside c.index_mut.ensures.value in
+    let size = c.requires.same_n ∙ sym (ap (λ (v : CoreFields). v.problem.weights.size) c.self.view_is) in
+    let ticket = ticket_is (the_view c.self.inside) c.in-Some.index _ c.deref-2.result.now _ _ c.fill_ticket.new.into c.deref-2.ensures.value size best c.self.invariant.4 c.fill_ticket.ensures.ticket in
+    let view = take_view (the_view c.self.inside) c.args.worker c.in-Some.index _ _ nodes c.put_last.ensures.items in
+    rw (← c.self.view_is) (take_on_node (the_view c.self.inside) _ c.args.worker c.in-Some.index c.fill_ticket.new.into c.self.invariant.0 c.self.invariant.1 inside view ticket
+    (first_in (the_view c.self.inside).state c.in-Some.index c.deref.result.now _ c.deref.ensures.value best c.in-Some.ensures.found))

@@ -1,0 +1,132 @@
+-- What contracts see of a core, what is true of it, and its steps.
+use Rattle.std.specs.Prelude.{◌≡◌, ℕ, ◌+◌, ◌*◌, ◌<◌, ◌≤◌, ◌<ℤ◌, ◌≤ℤ◌, List, [], ◌∷◌, ◌++◌, length, true}
+use Rattle.lop_model.specs.Order.{IsOrder}
+use Rattle.lop_model.specs.Matrix.{Matrix, weight}
+use Rattle.lop_leaf.specs.Record.{no_terms}
+use Rattle.lop_leaf.specs.Ticket.{TicketFields, pair_count}
+use Rattle.lop_leaf.specs.Evaluated.{EvaluatedFields}
+use Rattle.lop_leaf.specs.Sound.{Certifies, IsSoundTicket, IsSoundResult}
+use Rattle.lop_core.specs.declared.node.SearchNode.{SearchNode}
+use Rattle.lop_core.specs.declared.node.NodeView.{NodeView}
+use Rattle.lop_core.specs.declared.journal.Entry.{Entry}
+use Rattle.lop_core.specs.declared.journal.Entry.TheVariants.{Take, Report}
+use Rattle.lop_core.specs.declared.reply.TakeReply.{TakeReply}
+use Rattle.lop_core.specs.declared.reply.TakeReply.TheVariants.{Node, Done, AllOut, Spent}
+use Rattle.lop_core.specs.declared.reply.ReportReply.{ReportReply}
+use Rattle.lop_core.specs.declared.reply.ReportReply.TheVariants.{Closed, Split, NotYours}
+use Rattle.lop_core.specs.Tree.{node_at, path_of, out_count}
+use Rattle.lop_core.specs.Machine.{Problem, SearchState, root_state, after, IsOutTo, IsLive, IsReady, IsFirstReady}
+use Rattle.lop_core.specs.Journal.{replay, MayTake, IsLawfulJournal}
+
+-- a core as contracts see it: its problem and state, the journal of how it came about, and the order that weighs as much as best
+pub record CoreFields : Type 0 where
+  pub problem : Problem
+  pub state : SearchState
+  pub journal : List Entry
+  pub order : List ℕ
+
+-- the journal is lawful, the state is its replay, and best is the weight of the kept order
+pub record HasHistory (core : CoreFields) : Type 0 where
+  pub lawful : IsLawfulJournal core.problem core.journal
+  pub replayed : core.state ≡ replay core.problem core.journal
+  pub is_order : IsOrder core.problem.weights.size core.order
+  pub weighs : weight core.problem.weights core.order ≡ core.state.best
+
+-- each node's record certifies the node's bound under the node's path
+abbrev pub AreCertified : Matrix → List SearchNode → Type 0
+AreCertified C nodes = (i : ℕ) → i < length nodes → Certifies C (path_of nodes i) (node_at nodes i).bound
+
+-- the core after an event is noted
+abbrev pub with_entry : CoreFields → Entry → List ℕ → CoreFields
+with_entry core entry order = record core { state = after core.state entry; journal = core.journal ++ entry ∷ []; order = order }
+
+-- a core at its start: the root alone, and no entry
+abbrev pub prepared : Problem → List ℕ → CoreFields
+prepared problem order = record { problem = problem; state = root_state problem; journal = []; order = order }
+
+-- the ticket of a node
+abbrev pub ticket_of : CoreFields → ℕ → TicketFields
+ticket_of core node = record {
+  size = core.problem.weights.size;
+  node = node;
+  bound = (node_at core.state.nodes node).bound;
+  best = core.state.best;
+  path = path_of core.state.nodes node;
+  inherited = no_terms;
+}
+
+-- nothing was handed out
+abbrev pub NothingTaken : CoreFields → TicketFields → CoreFields → TicketFields → Type 0
+NothingTaken old blank new ticket = (new ≡ old) × (ticket ≡ blank)
+
+-- one take of the machine, whichever live idle node it hands out
+abbrev pub IsTake : CoreFields → TicketFields → ℕ → TakeReply → CoreFields → TicketFields → Type 0
+-- a live idle node is handed out, with its ticket, while the budget isn't met
+IsTake old blank worker Node new ticket = MayTake old.problem old.state ticket.node × (new ≡ with_entry old (Take worker ticket.node) old.order) × (ticket ≡ ticket_of old ticket.node)
+-- no node is live
+IsTake old blank worker Done new ticket = ((node : ℕ) → ¬ (IsLive old.state.nodes old.state.best node)) × NothingTaken old blank new ticket
+-- a live idle node is there, and the budget is met
+IsTake old blank worker Spent new ticket = ((node : ℕ) × IsReady old.state.nodes old.state.best node) × (old.problem.budget ≤ old.state.evaluated + out_count old.state.nodes) × NothingTaken old blank new ticket
+-- a node is live, and no live node is idle
+IsTake old blank worker AllOut new ticket = ((node : ℕ) × IsLive old.state.nodes old.state.best node) × ((node : ℕ) → ¬ (IsReady old.state.nodes old.state.best node)) × NothingTaken old blank new ticket
+
+-- the ticket has the node's bound and path
+pub record IsTicketOf (core : CoreFields) (node : ℕ) (ticket : TicketFields) : Type 0 where
+  pub bound : ticket.bound ≡ (node_at core.state.nodes node).bound
+  pub path : ticket.path ≡ path_of core.state.nodes node
+
+-- the node of the ticket was handed out to the worker: the ticket is sound, it is still that of the node, and no live idle node had a greater bound, nor an equal one and a lower number
+pub record IsHandedOut (old : CoreFields) (worker : ℕ) (new : CoreFields) (ticket : TicketFields) : Type 0 where
+  pub sound : IsSoundTicket old.problem.weights ticket
+  pub is_of : IsTicketOf new ticket.node ticket
+  pub is_out : IsOutTo new.state worker ticket.node
+  pub first : IsFirstReady old.state.nodes old.state.best ticket.node
+
+-- what a take that replies `Node` promises of the node
+abbrev pub OnNode : CoreFields → ℕ → TakeReply → CoreFields → TicketFields → Type 0
+OnNode old worker Node new ticket = IsHandedOut old worker new ticket
+OnNode old worker Done new ticket = Unit {0}
+OnNode old worker AllOut new ticket = Unit {0}
+OnNode old worker Spent new ticket = Unit {0}
+
+-- the result is sound for a ticket with the node's number, bound and path
+pub record IsSoundReport (core : CoreFields) (found : EvaluatedFields) : Type 0 where
+  pub ticket : TicketFields
+  pub is_of : IsTicketOf core found.node ticket
+  pub sound : IsSoundResult core.problem.weights ticket found
+
+-- the entry of a report
+abbrev pub entry_of : ℕ → EvaluatedFields → Entry
+entry_of worker found = Report worker found.node found.bound found.pair found.value true
+
+-- the order that is kept after a result: the result's where it weighs more, and else the one before
+pub record KeepsOrder (old : CoreFields) (found : EvaluatedFields) (order : List ℕ) : Type 0 where
+  pub better : old.state.best <ℤ found.value → order ≡ found.order
+  pub other : found.value ≤ℤ old.state.best → order ≡ old.order
+
+-- a report was taken in: the node was out to the worker, and the event is noted
+pub record IsReported (old : CoreFields) (worker : ℕ) (found : EvaluatedFields) (new : CoreFields) : Type 0 where
+  pub was_out : IsOutTo old.state worker found.node
+  pub noted : new ≡ with_entry old (entry_of worker found) new.order
+  pub keeps : KeepsOrder old found new.order
+
+-- one report of the machine
+abbrev pub IsReport : CoreFields → ℕ → EvaluatedFields → ReportReply → CoreFields → Type 0
+-- the node isn't out to the worker
+IsReport old worker found NotYours new = (¬ (IsOutTo old.state worker found.node)) × (new ≡ old)
+-- the node is closed
+IsReport old worker found Closed new = IsReported old worker found new × (length new.state.nodes ≡ length old.state.nodes)
+-- the node is split, and these are the numbers of its children
+IsReport old worker found (Split first) new = IsReported old worker found new × (first ≡ length old.state.nodes) × (length new.state.nodes ≡ length old.state.nodes + 2)
+
+-- what is known of a node
+abbrev pub view_of : SearchNode → NodeView
+view_of node = record { parent = node.parent; pair = node.pair; bound = node.bound; standing = node.standing; scale = 1; terms = 0 }
+
+-- the rooms hold all nodes and entries that a budget allows, and a path
+pub record HasRoom (n budget node_room journal_room path_room : ℕ) : Type 0 where
+  pub positive : 1 ≤ budget
+  pub within_limit : budget ≤ 1000000
+  pub for_nodes : 2 * budget + 1 ≤ node_room
+  pub for_entries : 2 * budget ≤ journal_room
+  pub for_path : pair_count n ≤ path_room

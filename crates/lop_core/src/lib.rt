@@ -1,0 +1,19 @@
+//! The search machine: nodes, what is handed out, what is reported, and the journal of it all.
+#![tactic(auto)]
+
+mod journal;
+mod node;
+mod path;
+mod reply;
+mod room;
+mod scan;
+mod search;
+mod settle;
+mod start;
+#[cfg(test)]
+mod tests;
+
+pub use journal::Entry;
+pub use node::{NodeView, SearchNode, Standing};
+pub use reply::{ReportReply, TakeReply};
+pub use search::Core;

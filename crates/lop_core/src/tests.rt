@@ -5,7 +5,7 @@ ghost use Rattle.lop_leaf.specs.Record.{no_terms};
 ghost use Rattle.lop_leaf.specs.Sound.{IsSoundTicket, IsSoundResult};
 
 use crate::start::order_weight;
-use crate::{Core, Entry, NodeView, ReportReply, Standing, TakeReply};
+use crate::{Core, ReportReply, TakeReply};
 use lop_fix::Fixings;
 use lop_leaf::{Evaluated, LeafRecord, PairRoom, Ticket, upper};
 use lop_model::{Order, Pair, Weights};
@@ -111,14 +111,6 @@ fn take(alloc: Global, core: &mut Core, worker: u32) -> Result<TakeReply, Fail> 
     Ok(core.take(worker, &mut ticket))
 }
 
-fn node(core: &Core, index: u32) -> Option<NodeView> {
-    if index < core.nodes() {
-        Some(core.node(index))
-    } else {
-        None
-    }
-}
-
 // Three objects with the pair maxima 5, 3 and 4, and a search that starts with the order 0, 1, 2 of weight 10.
 fn three_sectors(alloc: Global, budget: u32) -> Result<Option<Core>, Fail> {
     let entries: [i64; 9] = [0, 5, 1, 2, 0, 4, 3, 1, 0];
@@ -131,54 +123,8 @@ fn three_sectors(alloc: Global, budget: u32) -> Result<Option<Core>, Fail> {
     }
 }
 
-fn pair(before: u16, after: u16) -> Pair {
-    Pair { before, after }
-}
-
 fn order_of(alloc: Global, objects: [u16; 3]) -> Result<Option<Order>, Fail> {
     Ok(Order::of_list(objects.to_vec(alloc)?, 3).ok())
-}
-
-// The bounds under the five paths are 12, 12, 9, 10 and 9, each worked by hand.
-#[test]
-fn a_whole_search_by_hand(rt: HostRuntime) -> Result<(), Fail> {
-    let alloc = rt.alloc();
-    let mut core = three_sectors(alloc, 10_000)?.expect(&rt, "core");
-    for (worker, objects, want, bound, live) in [
-        (0, [2, 0, 1], (0, ReportReply::Split(1)), 12, 2),
-        (7, [2, 0, 1], (1, ReportReply::Split(3)), 12, 3),
-        (0, [1, 0, 2], (2, ReportReply::Closed), 12, 2),
-        (0, [0, 1, 2], (3, ReportReply::Closed), 12, 1),
-        (0, [2, 0, 1], (4, ReportReply::Closed), 10, 0),
-    ] {
-        let order = order_of(alloc, objects)?.expect(&rt, "order");
-        assert_eq!(rt; evaluate(alloc, &mut core, worker, &order)?, Some(want));
-        assert_eq!(rt;
-            (core.bound(), core.live(), core.idle_live()),
-            (bound, live, live)
-        );
-    }
-    assert_eq!(rt; take(alloc, &mut core, 0)?, TakeReply::Done);
-    assert_eq!(rt;
-        (core.best(), core.evaluated(), core.nodes(), core.budget()),
-        (10, 5, 5, 10_000)
-    );
-    assert!(rt; extends(core.best_order(), &[pair(0, 1), pair(1, 2)]));
-    assert_eq!(rt; core.journal().len(), 10);
-    assert_eq!(rt;
-        core.journal().get(2).copied(),
-        Some(Entry::Take { worker: 7, node: 1 })
-    );
-    let reversed = NodeView {
-        parent: 0,
-        pair: pair(1, 0),
-        bound: 9,
-        standing: Standing::Idle,
-        scale: 1,
-        terms: 0,
-    };
-    assert_eq!(rt; node(&core, 2), Some(reversed));
-    Ok(())
 }
 
 // With a budget of three nodes the bound stays at 12, and a live node is left.

@@ -5,7 +5,7 @@ ghost use Rattle.lop_leaf.specs.Record.{no_terms};
 ghost use Rattle.lop_leaf.specs.Sound.{IsSoundTicket, IsSoundResult};
 
 use crate::start::order_weight;
-use crate::{Core, ReportReply, TakeReply};
+use crate::{Core, Entry, NodeView, ReportReply, Standing, TakeReply};
 use lop_fix::Fixings;
 use lop_leaf::{Evaluated, LeafRecord, PairRoom, Ticket, upper};
 use lop_model::{Order, Pair, Weights};
@@ -165,5 +165,31 @@ fn all_out(rt: HostRuntime) -> Result<(), Fail> {
     let mut core = three_sectors(alloc, 3)?.expect(&rt, "core");
     assert_eq!(rt; take(alloc, &mut core, 4)?, TakeReply::Node);
     assert_eq!(rt; take(alloc, &mut core, 4)?, TakeReply::AllOut);
+    Ok(())
+}
+
+// The root with the pair bound of 12, as the readers see it while it is out to a worker.
+#[test]
+fn a_root_that_is_out(rt: HostRuntime) -> Result<(), Fail> {
+    let alloc = rt.alloc();
+    let mut core = three_sectors(alloc, 3)?.expect(&rt, "core");
+    assert_eq!(rt; take(alloc, &mut core, 4)?, TakeReply::Node);
+    assert_eq!(rt;
+        core.journal(),
+        [Entry::Take { worker: 4, node: 0 }].as_slice()
+    );
+    assert_eq!(rt; (core.nodes(), core.live(), core.budget()), (1, 1, 3));
+    assert_eq!(rt; order_weight(core.weights(), core.best_order()), 10);
+    if core.nodes() > 0 {
+        let root = NodeView {
+            parent: 0,
+            pair: Pair::default(),
+            bound: 12,
+            standing: Standing::Out(4),
+            scale: 1,
+            terms: 0,
+        };
+        assert_eq!(rt; core.node(0), root);
+    }
     Ok(())
 }

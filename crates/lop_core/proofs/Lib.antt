@@ -13,3 +13,4 @@ pub mod CoreLemmas
 pub mod Extensions
 pub mod NodeCount
 pub mod JudgeLemmas
+pub mod Monotone

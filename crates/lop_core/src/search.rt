@@ -1,7 +1,8 @@
 // The core: nodes and journal in rooms that are made once.
-ghost use Rattle.std.specs.Prelude.{◌≡◌, ℕ, List, IfOk, ◌≤ℤ◌, ◌+◌, ◌*◌, ◌<◌, ◌≤◌, length, ◌↔◌};
+ghost use Rattle.std.specs.Prelude.{◌≡◌, ℕ, List, [], IfOk, ◌≤ℤ◌, ◌+◌, ◌*◌, ◌<◌, ◌≤◌, length, ◌↔◌};
 ghost use Rattle.lop_model.specs.Order.{IsOrder};
 ghost use Rattle.lop_model.specs.Matrix.{weight};
+ghost use Rattle.lop_model.specs.Bound.{pair_bound};
 ghost use Rattle.lop_leaf.specs.Sound.{Certifies};
 ghost use Rattle.lop_core.specs.Tree.{IsCoveredOnce, node_at, path_of};
 ghost use Rattle.lop_core.specs.Machine.{IsOutTo, live_count, ready_count, state_bound};
@@ -175,9 +176,10 @@ impl Core {
         &self.weights
     }
 
-    /// The greatest weight known.
+    /// The greatest weight known. It never falls.
     pub fn best(&self) -> i128
         ensures value { result ≡ self.now.state.best }
+        ensures from_start { self.now.problem.start ≤ℤ result }
         ensures history { HasHistory self.now }
     {
         self.best
@@ -192,9 +194,11 @@ impl Core {
         &self.order
     }
 
-    /// The greatest of best and of the bounds of the nodes that aren't split. O(the number of nodes).
+    /// The greatest of best and of the bounds of the nodes that aren't split: at most the pair bound of the weights.
+    /// O(the number of nodes).
     pub fn bound(&self) -> i128
         ensures value { result ≡ state_bound self.now.state }
+        ensures from_root { result ≤ℤ pair_bound self.now.problem.weights [] }
         ensures bounds { (order : List ℕ) → IsOrder self.now.problem.weights.size order → weight self.now.problem.weights order ≤ℤ result }
         ensures at_least_best { self.now.state.best ≤ℤ result }
     {

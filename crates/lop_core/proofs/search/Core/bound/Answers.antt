@@ -3,6 +3,7 @@ use Rattle.std.proofs.lemmas.Int.{to_z-of_z}
 use mir.Syntax.{w128}
 use Rattle.lop_core.specs.contracts.search.Core.{the_view}
 use Rattle.lop_core.proofs.Replay.{raised-le}
+use Rattle.lop_core.proofs.Monotone.{core_from_root}
 use Rattle.lop_core.proofs.CoreLemmas.{bound_found, core_bound}
 use Rattle.lop_core.proofs.search.Core.bound.Goals as goal
 
@@ -19,3 +20,10 @@ returns-clause-at_least_best c =
     let g : FitsSigned w128 c.greatest_bound.result = search rules in
     let e = bound_found (the_view c.self.inside).state c.deref.result.now _ c.greatest_bound.result _ c.deref.ensures.value (to_z-of_z w128 c.self.inside.best f) (to_z-of_z w128 c.greatest_bound.result g) c.greatest_bound.ensures in
     rw (← c.self.view_is, e) (raised-le c.self.inside.nodes.items c.self.inside.best)
+
+pub returns-clause-from_root : goal.returns-clause-from_root
+returns-clause-from_root c =
+    let f : FitsSigned w128 c.self.inside.best = search rules in
+    let g : FitsSigned w128 c.greatest_bound.result = search rules in
+    let e = bound_found (the_view c.self.inside).state c.deref.result.now _ c.greatest_bound.result _ c.deref.ensures.value (to_z-of_z w128 c.self.inside.best f) (to_z-of_z w128 c.greatest_bound.result g) c.greatest_bound.ensures in
+    rw (← c.self.view_is, e) (core_from_root (the_view c.self.inside) c.self.invariant.0)

@@ -14,3 +14,4 @@ pub mod Extensions
 pub mod NodeCount
 pub mod JudgeLemmas
 pub mod Monotone
+pub mod Alone

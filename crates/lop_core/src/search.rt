@@ -208,6 +208,7 @@ impl Core {
     /// How many nodes were evaluated.
     pub fn evaluated(&self) -> u32
         ensures value { result ≡ self.now.state.evaluated }
+        ensures history { HasHistory self.now }
         ensures within_budget { result ≤ self.now.problem.budget }
     {
         self.evaluated

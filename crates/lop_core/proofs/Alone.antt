@@ -9,9 +9,17 @@ use Rattle.lop_core.specs.declared.node.Standing.{Standing}
 use Rattle.lop_core.specs.declared.node.Standing.TheVariants.{Idle, Out, Split}
 use Rattle.lop_core.specs.declared.journal.Entry.{Entry}
 use Rattle.lop_core.specs.Tree.{is_split, is_out, out_count}
-use Rattle.lop_core.specs.Machine.{Problem, SearchState, IsLive, IsReady, state_bound}
-use Rattle.lop_core.specs.Journal.{is_report, replay}
-use Rattle.lop_core.specs.Core.{CoreFields, HasHistory}
+use Rattle.lop_core.specs.declared.journal.Entry.TheVariants.{Take}
+use Rattle.lop_core.specs.declared.reply.TakeReply.{TakeReply}
+use Rattle.lop_core.specs.declared.reply.TakeReply.TheVariants.{Node, Done, AllOut, Spent}
+use Rattle.lop_core.specs.declared.reply.ReportReply.{ReportReply}
+use Rattle.lop_core.specs.declared.reply.ReportReply.TheVariants.{Closed, NotYours}
+use Rattle.lop_core.specs.declared.reply.ReportReply.TheVariants as replies
+use Rattle.lop_core.specs.Machine.{Problem, SearchState, IsLive, IsReady, IsOutTo, state_bound}
+use Rattle.lop_core.specs.Journal.{is_report}
+use Rattle.lop_leaf.specs.Ticket.{TicketFields}
+use Rattle.lop_leaf.specs.Evaluated.{EvaluatedFields}
+use Rattle.lop_core.specs.Core.{CoreFields, HasHistory, IsTake, IsReport, IsReported, with_entry, entry_of}
 use Rattle.lop_core.specs.Outcome.{IsFinished, IsOutcome}
 use Rattle.lop_core.proofs.Sound.{one_if, count_changed}
 use Rattle.lop_core.proofs.Replay.{raised-le}
@@ -75,3 +83,28 @@ core_outcome core h f = record {
   evaluated_is = ap (λ (s : SearchState). s.evaluated) (sym h.replayed);
   finished = subst (λ (s : SearchState). IsFinished core.problem s) h.replayed f;
 }
+
+-- a take of one worker alone that hands nothing out: the run is finished
+pub alone_finished : (old new : CoreFields) (blank ticket : TicketFields) (worker : ℕ) (r : TakeReply) → HasHistory old → out_count old.state.nodes ≡ 0 → IsTake old blank worker r new ticket → (r ≡ Node → ⊥)
+    → (new ≡ old) × IsFinished old.problem old.state
+alone_finished old new blank ticket worker Node h none step other = absurd (other refl)
+alone_finished old new blank ticket worker Done h none step other = (step.1.0, record { none_out = none; closed_or_spent = inl step.0 })
+alone_finished old new blank ticket worker AllOut h none step other = absurd (step.1 step.0.0 (ready_alone old.state.nodes old.state.best step.0.0 none step.0.1))
+alone_finished old new blank ticket worker Spent h none step other =
+    let most = (core_counted old h).within in (step.2.0, record { none_out = none; closed_or_spent = inr (omega (arith, most, step.1)) })
+
+-- a report of a node that is out to the worker is taken in
+pub taken_in : (old new : CoreFields) (worker : ℕ) (found : EvaluatedFields) (r : ReportReply) → IsOutTo old.state worker found.node → IsReport old worker found r new → IsReported old worker found new
+taken_in old new worker found NotYours out step = absurd (step.0 out)
+taken_in old new worker found Closed out step = step.0
+taken_in old new worker found (replies.Split first) out step = step.0
+
+-- a node was handed out to the worker, and what was found there was taken in
+pub turned : (old mid new : CoreFields) (worker node : ℕ) (found : EvaluatedFields) → HasHistory old → HasHistory new → mid ≡ with_entry old (Take worker node) old.order → new ≡ with_entry mid (entry_of worker found) new.order
+    → (new.problem ≡ old.problem) × (new.state.evaluated ≡ old.state.evaluated + 1) × (out_count new.state.nodes ≡ out_count old.state.nodes)
+turned old mid new worker node found h g first second =
+    let problem : new.problem ≡ old.problem = ap (λ (x : CoreFields). x.problem) second ∙ ap (λ (x : CoreFields). x.problem) first in
+    let journal : new.journal ≡ (old.journal ++ Take worker node ∷ []) ++ entry_of worker found ∷ [] =
+    ap (λ (x : CoreFields). x.journal) second ∙ ap (λ (x : CoreFields). x.journal ++ entry_of worker found ∷ []) first in
+    let counts = turn_counts old new (Take worker node) (entry_of worker found) h g problem journal refl refl in
+    (problem, counts.0, counts.1)

@@ -7,3 +7,5 @@ pub mod CheckLemmas
 pub mod Ends
 pub mod Promises
 pub mod Agreement
+pub mod ExtensionLemmas
+pub mod JudgeLemmas

@@ -14,35 +14,45 @@ use Rattle.lop_certtext.proofs.AcceptedText.{check_answer-certificate_text}
 use Rattle.lop_tool.specs.Input.{input_named, reading_of}
 use Rattle.lop_tool.specs.declared.words.Command.{Command}
 use Rattle.lop_tool.specs.declared.words.Command.TheVariants.{Solve, Check}
-use Rattle.lop_tool.specs.Command.{command_of, solve_command, check_command, is_name_word}
+use Rattle.lop_desk.specs.Number.{digits_value}
+use Rattle.lop_tool.specs.Command.{command_of, solve_command, check_command, with_certificate, with_budget, default_budget, is_name_word, is_budget}
 use Rattle.lop_tool.specs.Run.{certificate_of, Solves, Ended, EndsBy}
 use Rattle.lop_tool.specs.Both.{BothEnded, IsRoundTrip, Agree}
 use Rattle.lop_tool.proofs.Promises.{solves, completes}
 
 -- ---- the certificate's name isn't the file's
 
-named_apart : (b c : Bool) (file name f n : List ℕ) → c ≡ bytes_eq name file → cond b (cond c None (Some (Solve file (Some name)))) None ≡ Some (Solve f (Some n)) → bytes_eq n f ≡ false
-named_apart false c file name f n test is = absurd cc
-named_apart true true file name f n test is = absurd cc
-named_apart true false file name f n test is =
+named_apart : (b c : Bool) (file name f n : List ℕ) (nodes : ℕ) → c ≡ bytes_eq name file → cond b (cond c None (Some (Solve file default_budget (Some name)))) None ≡ Some (Solve f nodes (Some n)) → bytes_eq n f ≡ false
+named_apart false c file name f n nodes test is = absurd cc
+named_apart true true file name f n nodes test is = absurd cc
+named_apart true false file name f n nodes test is =
     let same : file ≡ f = cc in
     let named : name ≡ n = cc in
     sym (ap (λ (x : List ℕ). bytes_eq x f) named) ∙ sym (ap (λ (x : List ℕ). bytes_eq name x) same) ∙ sym test
 
-solve_apart : (file : List ℕ) (words : List (List ℕ)) (f n : List ℕ) → solve_command file words ≡ Some (Solve f (Some n)) → bytes_eq n f ≡ false
-solve_apart file [] f n is = absurd cc
-solve_apart file (option ∷ []) f n is = absurd cc
-solve_apart file (option ∷ name ∷ []) f n is = named_apart (bytes_eq option (codes "--cert") && is_name_word name) (bytes_eq name file) file name f n refl is
-solve_apart file (option ∷ name ∷ more ∷ words) f n is = absurd cc
+budget_not_named : (b : Bool) (file word f n : List ℕ) (nodes : ℕ) → cond b (Some (Solve file (digits_value word) None)) None ≡ Some (Solve f nodes (Some n)) → ⊥
+budget_not_named true file word f n nodes is = cc
+budget_not_named false file word f n nodes is = cc
 
-check_kind : (b : Bool) (file cert f : List ℕ) (n : Option (List ℕ)) → cond b (Some (Check file cert)) None ≡ Some (Solve f n) → ⊥
-check_kind true file cert f n is = cc
-check_kind false file cert f n is = cc
+option_apart : (c b : Bool) (file value f n : List ℕ) (nodes : ℕ) → cond c (with_certificate file value) (cond b (with_budget file value) None) ≡ Some (Solve f nodes (Some n)) → bytes_eq n f ≡ false
+option_apart true b file value f n nodes is = named_apart (is_name_word value) (bytes_eq value file) file value f n nodes refl is
+option_apart false true file value f n nodes is = absurd (budget_not_named (is_budget value) file value f n nodes is)
+option_apart false false file value f n nodes is = absurd cc
 
-check_not_solve : (file : List ℕ) (words : List (List ℕ)) (f : List ℕ) (n : Option (List ℕ)) → check_command file words ≡ Some (Solve f n) → ⊥
-check_not_solve file [] f n is = cc
-check_not_solve file (cert ∷ []) f n is = check_kind (is_name_word cert) file cert f n is
-check_not_solve file (cert ∷ more ∷ words) f n is = cc
+solve_apart : (file : List ℕ) (words : List (List ℕ)) (f n : List ℕ) (nodes : ℕ) → solve_command file words ≡ Some (Solve f nodes (Some n)) → bytes_eq n f ≡ false
+solve_apart file [] f n nodes is = absurd cc
+solve_apart file (option ∷ []) f n nodes is = absurd cc
+solve_apart file (option ∷ value ∷ []) f n nodes is = option_apart (bytes_eq option (codes "--cert")) (bytes_eq option (codes "--nodes")) file value f n nodes is
+solve_apart file (option ∷ value ∷ more ∷ words) f n nodes is = absurd cc
+
+check_kind : (b : Bool) (file cert f : List ℕ) (nodes : ℕ) (n : Option (List ℕ)) → cond b (Some (Check file cert)) None ≡ Some (Solve f nodes n) → ⊥
+check_kind true file cert f nodes n is = cc
+check_kind false file cert f nodes n is = cc
+
+check_not_solve : (file : List ℕ) (words : List (List ℕ)) (f : List ℕ) (nodes : ℕ) (n : Option (List ℕ)) → check_command file words ≡ Some (Solve f nodes n) → ⊥
+check_not_solve file [] f nodes n is = cc
+check_not_solve file (cert ∷ []) f nodes n is = check_kind (is_name_word cert) file cert f nodes n is
+check_not_solve file (cert ∷ more ∷ words) f nodes n is = cc
 
 either : (b c d : Bool) (x y : Option Command) (z : Command) → cond b (cond c x (cond d y None)) None ≡ Some z → (x ≡ Some z) ⊎ (y ≡ Some z)
 either false c d x y z is = absurd cc
@@ -51,14 +61,14 @@ either true false true x y z is = inr is
 either true false false x y z is = absurd cc
 
 -- a command with a certificate names it otherwise than its file
-pub names_apart : (words : List (List ℕ)) (f n : List ℕ) → command_of words ≡ Some (Solve f (Some n)) → bytes_eq n f ≡ false
-names_apart [] f n is = absurd cc
-names_apart (verb ∷ []) f n is = absurd cc
-names_apart (verb ∷ format ∷ []) f n is = absurd cc
-names_apart (verb ∷ format ∷ file ∷ words) f n is =
-    elim (either (bytes_eq format (codes "lolib") && is_name_word file) (bytes_eq verb (codes "solve")) (bytes_eq verb (codes "check")) (solve_command file words) (check_command file words) (Solve f (Some n)) is) [
-      | inl solve ↦ solve_apart file words f n solve
-      | inr check ↦ absurd (check_not_solve file words f (Some n) check)
+pub names_apart : (words : List (List ℕ)) (f n : List ℕ) (nodes : ℕ) → command_of words ≡ Some (Solve f nodes (Some n)) → bytes_eq n f ≡ false
+names_apart [] f n nodes is = absurd cc
+names_apart (verb ∷ []) f n nodes is = absurd cc
+names_apart (verb ∷ format ∷ []) f n nodes is = absurd cc
+names_apart (verb ∷ format ∷ file ∷ words) f n nodes is =
+    elim (either (bytes_eq format (codes "lolib") && is_name_word file) (bytes_eq verb (codes "solve")) (bytes_eq verb (codes "check")) (solve_command file words) (check_command file words) (Solve f nodes (Some n)) is) [
+      | inl solve ↦ solve_apart file words f n nodes solve
+      | inr check ↦ absurd (check_not_solve file words f nodes (Some n) check)
     ]
 
 -- ---- the second run
@@ -67,9 +77,9 @@ abbrev the_files : Option World → List NamedFile
 the_files None = []
 the_files (Some w) = w.files
 
-agree_at : (file name : List ℕ) (w v : World) (new : Option World) (before between now solved checked : ℕ) → name ≢ file → Solves file (Some name) w (Some w) (Some v) solved → Ended (Some (Check file name)) (Some v) new between now checked → before ≤ between
+agree_at : (file name : List ℕ) (nodes : ℕ) (w v : World) (new : Option World) (before between now solved checked : ℕ) → name ≢ file → Solves file nodes (Some name) w (Some w) (Some v) solved → Ended (Some (Check file name)) (Some v) new between now checked → before ≤ between
     → (Rose before now → ⊥) → (checked ≡ solved) ⊎ (checked ≡ 5)
-agree_at file name w v new before between now solved checked apart s second later calm =
+agree_at file name nodes w v new before between now solved checked apart s second later calm =
     let x = s.solved in
     let made : NamedFile = record { name = name; bytes = certificate_text (certificate_of x) } in
     let files : v.files ≡ put_file made w.files = ap the_files s.left in
@@ -81,22 +91,22 @@ agree_at file name w v new before between now solved checked apart s second late
     elim accepts [ inl same ↦ inl (same ∙ sym s.status_is) | inr five ↦ inr five ]
 
 -- the two runs of a round trip
-round_trip : (file : List ℕ) (name : List ℕ) (w : World) (mid new : Option World) (before between now solved checked : ℕ) → name ≢ file → Ended (Some (Solve file (Some name))) (Some w) mid before between solved → Ended (Some (Check file name)) mid new between now checked
+round_trip : (file : List ℕ) (name : List ℕ) (nodes : ℕ) (w : World) (mid new : Option World) (before between now solved checked : ℕ) → name ≢ file → Ended (Some (Solve file nodes (Some name))) (Some w) mid before between solved → Ended (Some (Check file name)) mid new between now checked
     → before ≤ between → (Rose before now → ⊥) → (solved ≡ 0) ⊎ (solved ≡ 6) → (checked ≡ solved) ⊎ (checked ≡ 5)
-round_trip file name w None new before between now solved checked apart first second later calm ends =
-    let s = solves (Some (Solve file (Some name))) (Some w) None before between solved first ends in
+round_trip file name nodes w None new before between now solved checked apart first second later calm ends =
+    let s = solves (Some (Solve file nodes (Some name))) (Some w) None before between solved first ends in
     absurd (cc s.left)
-round_trip file name w (Some v) new before between now solved checked apart first second later calm ends =
-    agree_at file name w v new before between now solved checked apart (solves (Some (Solve file (Some name))) (Some w) (Some v) before between solved first ends) second later calm
+round_trip file name nodes w (Some v) new before between now solved checked apart first second later calm ends =
+    agree_at file name nodes w v new before between now solved checked apart (solves (Some (Solve file nodes (Some name))) (Some w) (Some v) before between solved first ends) second later calm
 
-trip_names : (first second : Option Command) → IsRoundTrip first second → (file : List ℕ) × (name : List ℕ) × (first ≡ Some (Solve file (Some name))) × (second ≡ Some (Check file name))
+trip_names : (first second : Option Command) → IsRoundTrip first second → (file : List ℕ) × (name : List ℕ) × (nodes : ℕ) × (first ≡ Some (Solve file nodes (Some name))) × (second ≡ Some (Check file name))
 trip_names None second trip = absurd trip
 trip_names (Some (Check file cert)) second trip = absurd trip
-trip_names (Some (Solve file None)) second trip = absurd trip
-trip_names (Some (Solve file (Some name))) None trip = absurd trip
-trip_names (Some (Solve file (Some name))) (Some (Solve other cert)) trip = absurd trip
-trip_names (Some (Solve file (Some name))) (Some (Check other cert)) trip =
-    (file, name, refl, ap (λ (f : List ℕ). Some (Check f cert)) trip.0 ∙ ap (λ (c : List ℕ). Some (Check file c)) trip.1)
+trip_names (Some (Solve file nodes None)) second trip = absurd trip
+trip_names (Some (Solve file nodes (Some name))) None trip = absurd trip
+trip_names (Some (Solve file nodes (Some name))) (Some (Solve other more cert)) trip = absurd trip
+trip_names (Some (Solve file nodes (Some name))) (Some (Check other cert)) trip =
+    (file, name, nodes, refl, ap (λ (f : List ℕ). Some (Check f cert)) trip.0 ∙ ap (λ (c : List ℕ). Some (Check file c)) trip.1)
 
 -- a name that a test finds to be another is another
 other_name : (n f : List ℕ) → bytes_eq n f ≡ false → n ≢ f
@@ -106,7 +116,7 @@ pub agree : (words others : List (List ℕ)) (old new : Option World) (before no
 agree words others None new before now solved checked both = tt
 agree words others (Some w) new before now solved checked both = λ trip calm ends.
     let names = trip_names (command_of words) (command_of others) trip in
-    let apart : names.1 ≢ names.0 = other_name names.1 names.0 (names_apart words names.0 names.1 names.2) in
-    round_trip names.0 names.1 w both.between new before both.faults_between now solved checked apart
-    (subst (λ (c : Option Command). Ended c (Some w) both.between before both.faults_between solved) names.2 both.first_ended)
-    (subst (λ (c : Option Command). Ended c both.between new both.faults_between now checked) names.3 both.second_ended) both.first_later calm ends
+    let apart : names.1 ≢ names.0 = other_name names.1 names.0 (names_apart words names.0 names.1 names.2 names.3) in
+    round_trip names.0 names.1 names.2 w both.between new before both.faults_between now solved checked apart
+    (subst (λ (c : Option Command). Ended c (Some w) both.between before both.faults_between solved) names.3 both.first_ended)
+    (subst (λ (c : Option Command). Ended c both.between new both.faults_between now checked) names.4 both.second_ended) both.first_later calm ends

@@ -9,3 +9,5 @@ pub mod Promises
 pub mod Agreement
 pub mod ExtensionLemmas
 pub mod JudgeLemmas
+pub mod Budget
+pub mod SearchedLemmas

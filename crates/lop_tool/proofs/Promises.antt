@@ -24,7 +24,7 @@ use Rattle.lop_tool.specs.declared.reply.Reply.TheVariants.{Refused, Solved, Che
 use Rattle.lop_tool.specs.AnswerText.{is_optimal}
 use Rattle.lop_tool.specs.Input.{input_named, reading_of}
 use Rattle.lop_tool.specs.Reply.{IsSolution, reply_status, outcome_status, outcome_text, refusal_line}
-use Rattle.lop_tool.specs.Run.{Ended, replied, cut_off, faulted, lacked, Answers, Faulted, PrintsOnly, IsChecked, IsBounded, IsRejection, IsRejected, IsRefused, PrintsRejection, PrintsRefusal, answer_of, certificate_of, ExactlyWhere, SolvesFile, AcceptsCertificate, Accepts, EndsBy, IsComplete, Refuses, input_file}
+use Rattle.lop_tool.specs.Run.{IsSolved, Ended, replied, cut_off, faulted, lacked, Answers, Faulted, PrintsOnly, IsChecked, IsBounded, IsRejection, IsRejected, IsRefused, PrintsRejection, PrintsRefusal, answer_of, certificate_of, ExactlyWhere, SolvesFile, AcceptsCertificate, Accepts, EndsBy, IsComplete, Refuses, input_file}
 
 -- ---- statuses
 
@@ -43,7 +43,7 @@ solved_not false status k is some less same = omega arith
 
 -- ---- a solution and its certificate
 
-in_64_bits : (x m : ℤ) → x ≤ℤ m → neg_ℤ m ≤ℤ x → m ≤ℤ pos (10 ^ 18) → nat_abs x < 2 ^ 63
+pub in_64_bits : (x m : ℤ) → x ≤ℤ m → neg_ℤ m ≤ℤ x → m ≤ℤ pos (10 ^ 18) → nat_abs x < 2 ^ 63
 in_64_bits (pos n) m high low most = omega (arith, ints)
 in_64_bits (negsuc n) m high low most = omega (arith, ints)
 
@@ -57,6 +57,10 @@ tree_certificate x so =
       bound_fits = rw so.bound_is (in_64_bits _ _ bounds.0 bounds.1 so.weights.bounded_sum);
       certified = rw so.bound_is (omega (arith, ints));
     }
+
+its_certificate : (nodes : ℕ) (cert : Option (List ℕ)) (x : Solution) → IsSolved nodes cert x → IfSome cert (λ _. IsTreeCertificate x.weights (certificate_of x))
+its_certificate nodes None x so = tt
+its_certificate nodes (Some name) x so = tree_certificate x so
 
 -- ---- what is known of a certificate is known for sure
 
@@ -107,26 +111,26 @@ pub solves : (command : Option Command) (old new : Option World) (before now sta
 solves command None new before now status ended = tt
 solves None (Some w) new before now status ended = tt
 solves (Some (Check file cert)) (Some w) new before now status ended = tt
-solves (Some (Solve file cert)) (Some w) new before now status (replied (Solved x) answers is left) = λ _. record {
+solves (Some (Solve file nodes cert)) (Some w) new before now status (replied (Solved x) answers is left) = λ _. record {
   solved = x;
   accepted_file = answers.1;
   solution = answers.0;
-  certificate = tree_certificate x answers.0;
+  certificate = its_certificate nodes cert x answers.0;
   status_is = is;
   left = left;
 }
-solves (Some (Solve file cert)) (Some w) new before now status (replied (Checked x) answers is left) = λ _. absurd answers
-solves (Some (Solve file cert)) (Some w) new before now status (replied (Refused Words) answers is left) = λ _. absurd answers
-solves (Some (Solve file cert)) (Some w) new before now status (replied (Refused LongCertificate) answers is left) = λ _. absurd answers
-solves (Some (Solve file cert)) (Some w) new before now status (replied (Refused (Input r)) answers is left) = λ ends. absurd (not_solved status (omega arith) (omega arith) ends)
-solves (Some (Solve file cert)) (Some w) new before now status (cut_off reply n is fault answers left) = λ ends. absurd (not_solved status (omega arith) (omega arith) ends)
-solves (Some (Solve file cert)) (Some w) new before now status (faulted is fault leaves) = λ ends. absurd (not_solved status (omega arith) (omega arith) ends)
-solves (Some (Solve file cert)) (Some w) new before now status (lacked is leaves) = λ ends. absurd (not_solved status (omega arith) (omega arith) ends)
+solves (Some (Solve file nodes cert)) (Some w) new before now status (replied (Checked x) answers is left) = λ _. absurd answers
+solves (Some (Solve file nodes cert)) (Some w) new before now status (replied (Refused Words) answers is left) = λ _. absurd answers
+solves (Some (Solve file nodes cert)) (Some w) new before now status (replied (Refused LongCertificate) answers is left) = λ _. absurd answers
+solves (Some (Solve file nodes cert)) (Some w) new before now status (replied (Refused (Input r)) answers is left) = λ ends. absurd (not_solved status (omega arith) (omega arith) ends)
+solves (Some (Solve file nodes cert)) (Some w) new before now status (cut_off reply n is fault answers left) = λ ends. absurd (not_solved status (omega arith) (omega arith) ends)
+solves (Some (Solve file nodes cert)) (Some w) new before now status (faulted is fault leaves) = λ ends. absurd (not_solved status (omega arith) (omega arith) ends)
+solves (Some (Solve file nodes cert)) (Some w) new before now status (lacked is leaves) = λ ends. absurd (not_solved status (omega arith) (omega arith) ends)
 
 pub checks : (command : Option Command) (old new : Option World) (before now status : ℕ) → Ended command old new before now status → IfSome old (λ w. AcceptsCertificate command w old new status)
 checks command None new before now status ended = tt
 checks None (Some w) new before now status ended = tt
-checks (Some (Solve file cert)) (Some w) new before now status ended = tt
+checks (Some (Solve file nodes cert)) (Some w) new before now status ended = tt
 checks (Some (Check file cert)) (Some w) new before now status (replied (Checked x) answers is left) = accepts_by file cert w (Some w) new status x.weights x.outcome answers.0 answers.1 is left
 checks (Some (Check file cert)) (Some w) new before now status (replied (Solved x) answers is left) = λ _. absurd answers
 checks (Some (Check file cert)) (Some w) new before now status (replied (Refused Words) answers is left) = λ _. absurd answers
@@ -146,12 +150,12 @@ usage_line command old new before now status (cut_off reply n is fault answers l
 usage_line command old new before now status (faulted is fault leaves) two = absurd (omega arith)
 usage_line command old new before now status (lacked is leaves) two = absurd (omega arith)
 
-solve_not_one : (file : List ℕ) (cert : Option (List ℕ)) (w : World) (reply : Reply) (status : ℕ) → Answers (Some (Solve file cert)) (Some w) reply → status ≡ reply_status reply → status ≡ 1 → ⊥
-solve_not_one file cert w (Solved x) status answers is one = solved_not (is_optimal x.answer.value x.answer.bound) status 1 is (omega arith) (omega arith) one
-solve_not_one file cert w (Checked x) status answers is one = answers
-solve_not_one file cert w (Refused Words) status answers is one = answers
-solve_not_one file cert w (Refused LongCertificate) status answers is one = answers
-solve_not_one file cert w (Refused (Input r)) status answers is one = omega arith
+solve_not_one : (file : List ℕ) (nodes : ℕ) (cert : Option (List ℕ)) (w : World) (reply : Reply) (status : ℕ) → Answers (Some (Solve file nodes cert)) (Some w) reply → status ≡ reply_status reply → status ≡ 1 → ⊥
+solve_not_one file nodes cert w (Solved x) status answers is one = solved_not (is_optimal x.answer.value x.answer.bound) status 1 is (omega arith) (omega arith) one
+solve_not_one file nodes cert w (Checked x) status answers is one = answers
+solve_not_one file nodes cert w (Refused Words) status answers is one = answers
+solve_not_one file nodes cert w (Refused LongCertificate) status answers is one = answers
+solve_not_one file nodes cert w (Refused (Input r)) status answers is one = omega arith
 
 words_not_one : (reply : Reply) (status : ℕ) → reply ≡ Refused Words → status ≡ reply_status reply → status ≡ 1 → ⊥
 words_not_one reply status answers is one = let two : status ≡ 2 = is ∙ ap reply_status answers in omega arith
@@ -162,7 +166,7 @@ rejection_line command (Some w) new before now status (cut_off reply n is fault 
 rejection_line command (Some w) new before now status (faulted is fault leaves) = λ one. absurd (omega arith)
 rejection_line command (Some w) new before now status (lacked is leaves) = λ one. absurd (omega arith)
 rejection_line None (Some w) new before now status (replied reply answers is left) = λ one. absurd (words_not_one reply status answers is one)
-rejection_line (Some (Solve file cert)) (Some w) new before now status (replied reply answers is left) = λ one. absurd (solve_not_one file cert w reply status answers is one)
+rejection_line (Some (Solve file nodes cert)) (Some w) new before now status (replied reply answers is left) = λ one. absurd (solve_not_one file nodes cert w reply status answers is one)
 rejection_line (Some (Check file cert)) (Some w) new before now status (replied (Checked x) answers is left) = rejects_by file cert w (Some w) new status x.weights x.outcome answers.1 is left
 rejection_line (Some (Check file cert)) (Some w) new before now status (replied (Solved x) answers is left) = λ one. absurd answers
 rejection_line (Some (Check file cert)) (Some w) new before now status (replied (Refused Words) answers is left) = λ one. absurd answers
@@ -196,7 +200,7 @@ rejects command (Some w) new before now status ended = record {
         → (status ≡ 1) ⊎ (status ≡ 5) ⊎ ((status ≡ 4) × Faulted c (Some w) before now)
     always c (inr other) rejection = inr other
     always None (inl r) rejection = absurd rejection.2
-    always (Some (Solve file cert)) (inl r) rejection = absurd rejection.2
+    always (Some (Solve file nodes cert)) (inl r) rejection = absurd rejection.2
     always (Some (Check file cert)) (inl r) rejection = inl (r.2 ∙ rejected_reply file cert w r.0 rejection.0 rejection.1 r.1 rejection.2)
 
 pub refusal_line_of : (command : Option Command) (old new : Option World) (before now status : ℕ) → Ended command old new before now status → IfSome old (λ w. status ≡ 3 → PrintsRefusal command w old new)
@@ -205,11 +209,11 @@ refusal_line_of command (Some w) new before now status (cut_off reply n is fault
 refusal_line_of command (Some w) new before now status (faulted is fault leaves) = λ three. absurd (omega arith)
 refusal_line_of command (Some w) new before now status (lacked is leaves) = λ three. absurd (omega arith)
 refusal_line_of None (Some w) new before now status (replied reply answers is left) = λ three. let two : status ≡ 2 = is ∙ ap reply_status answers in absurd (omega arith)
-refusal_line_of (Some (Solve file cert)) (Some w) new before now status (replied (Solved x) answers is left) = λ three. absurd (solved_not (is_optimal x.answer.value x.answer.bound) status 3 is (omega arith) (omega arith) three)
-refusal_line_of (Some (Solve file cert)) (Some w) new before now status (replied (Checked x) answers is left) = λ three. absurd answers
-refusal_line_of (Some (Solve file cert)) (Some w) new before now status (replied (Refused Words) answers is left) = λ three. absurd answers
-refusal_line_of (Some (Solve file cert)) (Some w) new before now status (replied (Refused LongCertificate) answers is left) = λ three. absurd answers
-refusal_line_of (Some (Solve file cert)) (Some w) new before now status (replied (Refused (Input r)) answers is left) = λ three. (Input r, answers, left)
+refusal_line_of (Some (Solve file nodes cert)) (Some w) new before now status (replied (Solved x) answers is left) = λ three. absurd (solved_not (is_optimal x.answer.value x.answer.bound) status 3 is (omega arith) (omega arith) three)
+refusal_line_of (Some (Solve file nodes cert)) (Some w) new before now status (replied (Checked x) answers is left) = λ three. absurd answers
+refusal_line_of (Some (Solve file nodes cert)) (Some w) new before now status (replied (Refused Words) answers is left) = λ three. absurd answers
+refusal_line_of (Some (Solve file nodes cert)) (Some w) new before now status (replied (Refused LongCertificate) answers is left) = λ three. absurd answers
+refusal_line_of (Some (Solve file nodes cert)) (Some w) new before now status (replied (Refused (Input r)) answers is left) = λ three. (Input r, answers, left)
 refusal_line_of (Some (Check file cert)) (Some w) new before now status (replied (Solved x) answers is left) = λ three. absurd answers
 refusal_line_of (Some (Check file cert)) (Some w) new before now status (replied (Checked x) answers is left) = λ three. absurd (outcome_not x.outcome status 3 is (omega arith) (omega arith) three)
 refusal_line_of (Some (Check file cert)) (Some w) new before now status (replied (Refused Words) answers is left) = λ three. absurd answers
@@ -218,11 +222,11 @@ refusal_line_of (Some (Check file cert)) (Some w) new before now status (replied
 
 -- the input is refused, so no reply has another status
 refused_input : (command : Command) (w : World) (reply : Reply) (e : InputRefusal) → Answers (Some command) (Some w) reply → input_named w.files (input_file command) ≡ Some (Err e) → reply_status reply ≡ 3
-refused_input (Solve file cert) w (Solved x) e answers is = absurd (cc (answers.1, is))
-refused_input (Solve file cert) w (Checked x) e answers is = absurd answers
-refused_input (Solve file cert) w (Refused Words) e answers is = absurd answers
-refused_input (Solve file cert) w (Refused LongCertificate) e answers is = absurd answers
-refused_input (Solve file cert) w (Refused (Input r)) e answers is = refl
+refused_input (Solve file nodes cert) w (Solved x) e answers is = absurd (cc (answers.1, is))
+refused_input (Solve file nodes cert) w (Checked x) e answers is = absurd answers
+refused_input (Solve file nodes cert) w (Refused Words) e answers is = absurd answers
+refused_input (Solve file nodes cert) w (Refused LongCertificate) e answers is = absurd answers
+refused_input (Solve file nodes cert) w (Refused (Input r)) e answers is = refl
 refused_input (Check file cert) w (Solved x) e answers is = absurd answers
 refused_input (Check file cert) w (Checked x) e answers is = absurd (cc (answers.1.accepted_file, is))
 refused_input (Check file cert) w (Refused Words) e answers is = absurd answers
@@ -240,7 +244,7 @@ long_reply file cert w (Refused (Input e)) C answers checked = refl
 refused_reply : (command : Command) (w : World) (reply : Reply) (refusal : Refusal) → Answers (Some command) (Some w) reply → Refuses (Some command) w refusal → reply_status reply ≡ 3
 refused_reply command w reply Words answers refuses = absurd refuses
 refused_reply command w reply (Input e) answers refuses = refused_input command w reply e answers refuses
-refused_reply (Solve file cert) w reply LongCertificate answers refuses = absurd refuses
+refused_reply (Solve file nodes cert) w reply LongCertificate answers refuses = absurd refuses
 refused_reply (Check file cert) w reply LongCertificate answers refuses = long_reply file cert w reply refuses.0 answers refuses.1
 
 no_refusal : (w : World) (refusal : Refusal) → Refuses None w refusal → ⊥
@@ -266,17 +270,17 @@ refuses_of command (Some w) new before now status ended = record {
 not_missing : (w : World) (name : List ℕ) (input : Result Matrix InputRefusal) → input_named w.files name ≡ Some input → IsMissing (Some w) name → ⊥
 not_missing w name input is missing = let none : input_named w.files name ≡ None = ap reading_of missing in cc
 
-solve_ends : (file : List ℕ) (cert : Option (List ℕ)) (w : World) (C : Matrix) (before now status : ℕ) → input_named w.files file ≡ Some (Ok C) → (Rose before now → ⊥)
-    → ((reply : Reply) × Answers (Some (Solve file cert)) (Some w) reply × (status ≡ reply_status reply)) ⊎ (status ≡ 5) ⊎ ((status ≡ 4) × Faulted (Some (Solve file cert)) (Some w) before now) → (status ≡ 0) ⊎ (status ≡ 6) ⊎ (status ≡ 5)
-solve_ends file cert w C before now status input calm (inl (Solved x, answers, is)) = elim (solved_is (is_optimal x.answer.value x.answer.bound) status is) [ inl zero_is ↦ inl zero_is | inr six ↦ inr (inl six) ]
-solve_ends file cert w C before now status input calm (inl (Checked x, answers, is)) = absurd answers
-solve_ends file cert w C before now status input calm (inl (Refused Words, answers, is)) = absurd answers
-solve_ends file cert w C before now status input calm (inl (Refused LongCertificate, answers, is)) = absurd answers
-solve_ends file cert w C before now status input calm (inl (Refused (Input e), answers, is)) = absurd (cc (answers, input))
-solve_ends file cert w C before now status input calm (inr (inl five)) = inr (inr five)
-solve_ends file cert w C before now status input calm (inr (inr (four, inl (inl missing)))) = absurd (not_missing w file (Ok C) input missing)
-solve_ends file cert w C before now status input calm (inr (inr (four, inl (inr none)))) = absurd none
-solve_ends file cert w C before now status input calm (inr (inr (four, inr rose))) = absurd (calm rose)
+solve_ends : (file : List ℕ) (nodes : ℕ) (cert : Option (List ℕ)) (w : World) (C : Matrix) (before now status : ℕ) → input_named w.files file ≡ Some (Ok C) → (Rose before now → ⊥)
+    → ((reply : Reply) × Answers (Some (Solve file nodes cert)) (Some w) reply × (status ≡ reply_status reply)) ⊎ (status ≡ 5) ⊎ ((status ≡ 4) × Faulted (Some (Solve file nodes cert)) (Some w) before now) → (status ≡ 0) ⊎ (status ≡ 6) ⊎ (status ≡ 5)
+solve_ends file nodes cert w C before now status input calm (inl (Solved x, answers, is)) = elim (solved_is (is_optimal x.answer.value x.answer.bound) status is) [ inl zero_is ↦ inl zero_is | inr six ↦ inr (inl six) ]
+solve_ends file nodes cert w C before now status input calm (inl (Checked x, answers, is)) = absurd answers
+solve_ends file nodes cert w C before now status input calm (inl (Refused Words, answers, is)) = absurd answers
+solve_ends file nodes cert w C before now status input calm (inl (Refused LongCertificate, answers, is)) = absurd answers
+solve_ends file nodes cert w C before now status input calm (inl (Refused (Input e), answers, is)) = absurd (cc (answers, input))
+solve_ends file nodes cert w C before now status input calm (inr (inl five)) = inr (inr five)
+solve_ends file nodes cert w C before now status input calm (inr (inr (four, inl (inl missing)))) = absurd (not_missing w file (Ok C) input missing)
+solve_ends file nodes cert w C before now status input calm (inr (inr (four, inl (inr none)))) = absurd none
+solve_ends file nodes cert w C before now status input calm (inr (inr (four, inr rose))) = absurd (calm rose)
 
 want_ends : (a : CheckAnswer) (status : ℕ) → status ≡ 5 → EndsBy a status
 want_ends (accepted value bound) status five = inr five
@@ -300,5 +304,5 @@ check_ends file cert w C bytes before now status input there calm (inr (inr (fou
 pub completes : (command : Option Command) (old new : Option World) (before now status : ℕ) → Ended command old new before now status → IfSome old (λ w. IsComplete command w before now status)
 completes command None new before now status ended = tt
 completes None (Some w) new before now status ended = tt
-completes (Some (Solve file cert)) (Some w) new before now status ended = λ C input calm. solve_ends file cert w C before now status input calm (reply_or (Some (Solve file cert)) (Some w) new before now status ended)
+completes (Some (Solve file nodes cert)) (Some w) new before now status ended = λ C input calm. solve_ends file nodes cert w C before now status input calm (reply_or (Some (Solve file nodes cert)) (Some w) new before now status ended)
 completes (Some (Check file cert)) (Some w) new before now status ended = λ C bytes input there calm. check_ends file cert w C bytes before now status input there calm (reply_or (Some (Check file cert)) (Some w) new before now status ended)

@@ -19,10 +19,10 @@ pub record BothEnded (first second : Option Command) (old new : Option World) (b
 abbrev pub IsRoundTrip : Option Command → Option Command → Type 0
 IsRoundTrip None second = ⊥
 IsRoundTrip (Some (Check file cert)) second = ⊥
-IsRoundTrip (Some (Solve file None)) second = ⊥
-IsRoundTrip (Some (Solve file (Some name))) None = ⊥
-IsRoundTrip (Some (Solve file (Some name))) (Some (Solve other cert)) = ⊥
-IsRoundTrip (Some (Solve file (Some name))) (Some (Check other cert)) = (other ≡ file) × (cert ≡ name)
+IsRoundTrip (Some (Solve file nodes None)) second = ⊥
+IsRoundTrip (Some (Solve file nodes (Some name))) None = ⊥
+IsRoundTrip (Some (Solve file nodes (Some name))) (Some (Solve other more cert)) = ⊥
+IsRoundTrip (Some (Solve file nodes (Some name))) (Some (Check other cert)) = (other ≡ file) × (cert ≡ name)
 
 -- where no call failed and the first ended with 0 or 6, the second ends with the same, or for want of memory
 abbrev pub Agree : Option Command → Option Command → Option World → ℕ → ℕ → ℕ → ℕ → Type 0

@@ -1,6 +1,7 @@
 -- The command line.
-use Rattle.std.specs.Prelude.{ℕ, Bool, true, false, ◌&&◌, ◌==◌, List, [], ◌∷◌, codes, Option, None, Some, if◌then◌else◌}
+use Rattle.std.specs.Prelude.{ℕ, ◌≤◌, nat_le, Bool, true, false, not, ◌&&◌, ◌||◌, ◌==◌, List, [], ◌∷◌, codes, Option, None, Some, if◌then◌else◌, ⊤}
 use Rattle.std.specs.Str.{bytes_eq}
+use Rattle.lop_desk.specs.Number.{all_digits, digits_value}
 use Rattle.lop_tool.specs.declared.words.Command.{Command}
 use Rattle.lop_tool.specs.declared.words.Command.TheVariants.{Solve, Check}
 
@@ -9,11 +10,40 @@ abbrev pub is_name_word : List ℕ → Bool
 is_name_word [] = false
 is_name_word (b ∷ bs) = if b == 45 then false else true
 
--- what follows FILE in `solve`: nothing, or a certificate's name, which isn't FILE
+abbrev pub is_empty : List ℕ → Bool
+is_empty [] = true
+is_empty (b ∷ bs) = false
+
+-- `0`, or digits that don't begin with 0
+abbrev pub is_plain : List ℕ → Bool
+is_plain [] = false
+is_plain (b ∷ bs) = all_digits (b ∷ bs) && (not (b == 48) || is_empty bs)
+
+-- a node budget is a plain number from 1 to 1,000,000
+abbrev pub is_budget : List ℕ → Bool
+is_budget word = is_plain word && (nat_le 1 (digits_value word) && nat_le (digits_value word) 1000000)
+
+-- how many nodes may be evaluated where the words don't say
+abbrev pub default_budget : ℕ
+default_budget = 10000
+
+-- `solve` with a certificate under a name, which isn't FILE
+abbrev pub with_certificate : List ℕ → List ℕ → Option Command
+with_certificate file name = if is_name_word name then (if bytes_eq name file then None else Some (Solve file default_budget (Some name))) else None
+
+-- `solve` with a node budget
+abbrev pub with_budget : List ℕ → List ℕ → Option Command
+with_budget file word = if is_budget word then Some (Solve file (digits_value word) None) else None
+
+-- `solve` with an option and its value
+abbrev pub option_command : List ℕ → List ℕ → List ℕ → Option Command
+option_command file option value =
+    if bytes_eq option (codes "--cert") then with_certificate file value else (if bytes_eq option (codes "--nodes") then with_budget file value else None)
+
+-- what follows FILE in `solve`: nothing, or one option and its value
 abbrev pub solve_command : List ℕ → List (List ℕ) → Option Command
-solve_command file [] = Some (Solve file None)
-solve_command file (option ∷ name ∷ []) =
-    if bytes_eq option (codes "--cert") && is_name_word name then (if bytes_eq name file then None else Some (Solve file (Some name))) else None
+solve_command file [] = Some (Solve file default_budget None)
+solve_command file (option ∷ value ∷ []) = option_command file option value
 solve_command file words = None
 
 -- what follows FILE in `check`: the certificate
@@ -27,3 +57,8 @@ command_of (verb ∷ format ∷ file ∷ words) =
     if bytes_eq format (codes "lolib") && is_name_word file then (if bytes_eq verb (codes "solve") then solve_command file words else (if bytes_eq verb (codes "check") then check_command file words else None))
     else None
 command_of words = None
+
+-- the command's node budget is within its limits
+abbrev pub HasBudget : Command → Type 0
+HasBudget (Solve file nodes cert) = (1 ≤ nodes) × (nodes ≤ 1000000)
+HasBudget (Check file cert) = ⊤

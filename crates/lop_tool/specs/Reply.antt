@@ -1,8 +1,9 @@
 -- What a run replies.
-use Rattle.std.specs.Prelude.{◌≡◌, ℕ, ◌^◌, List, [], length, ◌++◌, codes, ℤ, pos, ◌≤ℤ◌, if◌then◌else◌}
+use Rattle.std.specs.Prelude.{◌≡◌, ℕ, ◌^◌, List, [], length, ◌++◌, codes, ℤ, pos, ◌≤ℤ◌, ◌<ℤ◌, if◌then◌else◌}
 use Rattle.lop_model.specs.Order.{IsOrder}
 use Rattle.lop_model.specs.Matrix.{Matrix, IsWeights, weight, IsUpperBound}
 use Rattle.lop_model.specs.Bound.{pair_bound}
+use Rattle.lop_core.specs.Outcome.{IsOutcome}
 use Rattle.lop_tool.specs.declared.reply.Solution.{Solution}
 use Rattle.lop_tool.specs.declared.reply.Outcome.{Outcome}
 use Rattle.lop_tool.specs.declared.reply.Outcome.TheVariants.{Accepted, Rejected}
@@ -68,6 +69,19 @@ pub record IsSolution (C : Matrix) (s : List ℕ) (value bound : ℤ) (nodes : �
   pub bound_is : bound ≡ pair_bound C []
   pub bounds : IsUpperBound C bound
   pub nodes_are : nodes ≡ (if is_optimal value bound then 0 else 1)
+
+-- the numbers are those of a finished run of the search with this budget: the value is the order's weight, no order
+-- weighs more than the bound, and the two differ only where the budget was spent; the value is at least the weight of the
+-- start order, and the bound at most the pair bound
+pub record IsSearched (C : Matrix) (budget : ℕ) (s : List ℕ) (value bound : ℤ) (nodes : ℕ) : Type 0 where
+  pub weights : IsWeights C
+  pub outcome : IsOutcome C budget s value bound nodes
+  pub order : IsOrder C.size s
+  pub value_is : value ≡ weight C s
+  pub bounds : IsUpperBound C bound
+  pub spent : value <ℤ bound → nodes ≡ budget
+  pub from_start : (t : List ℕ) → IsBeckerOrder C t → weight C t ≤ℤ value
+  pub from_pairs : bound ≤ℤ pair_bound C []
 
 -- what printing asks of a reply
 abbrev pub IsPrintable : Reply → Type 0

@@ -22,7 +22,7 @@ use Rattle.lop_tool.specs.declared.reply.Stop.{Stop}
 use Rattle.lop_tool.specs.declared.reply.Stop.TheVariants.{Fault, Memory}
 use Rattle.lop_tool.specs.AnswerText.{accepted_text, rejected_line}
 use Rattle.lop_tool.specs.Input.{input_named}
-use Rattle.lop_tool.specs.Reply.{IsSolution, refusal_line, reply_text, reply_status, solved_status, solution_text}
+use Rattle.lop_tool.specs.Reply.{IsSolution, IsSearched, refusal_line, reply_text, reply_status, solved_status, solution_text}
 
 -- the files and the printed bytes alone
 abbrev pub settled : Option World → Option World
@@ -38,7 +38,7 @@ LeavesAll old new = settled new ≡ settled old
 
 -- the file of weights that a command reads
 abbrev pub input_file : Command → List ℕ
-input_file (Solve file cert) = file
+input_file (Solve file nodes cert) = file
 input_file (Check file cert) = file
 
 -- the input of a command: none without a command, and where its file isn't there
@@ -48,7 +48,7 @@ input_for (Some command) files = input_named files (input_file command)
 
 -- the certificate that a command reads isn't there
 abbrev pub CertMissing : Command → Option World → Type 0
-CertMissing (Solve file cert) old = ⊥
+CertMissing (Solve file nodes cert) old = ⊥
 CertMissing (Check file cert) old = IsMissing old cert
 
 -- a file that the command names for reading isn't there
@@ -60,13 +60,18 @@ NamesMissing (Some command) old = IsMissing old (input_file command) ⊎ CertMis
 abbrev pub Faulted : Option Command → Option World → ℕ → ℕ → Type 0
 Faulted command old before now = NamesMissing command old ⊎ Rose before now
 
+-- what `solve` finds: without a certificate by a search with a node budget, and with one by the start order and the pair bound
+abbrev pub IsSolved : ℕ → Option (List ℕ) → Solution → Type 0
+IsSolved nodes None x = IsSearched x.weights nodes x.order x.answer.value x.answer.bound x.answer.nodes
+IsSolved nodes (Some name) x = IsSolution x.weights x.order x.answer.value x.answer.bound x.answer.nodes
+
 -- the reply to `solve`: the file is refused, or its weights have this solution
-abbrev pub AnswersSolve : List ℕ → Option World → Reply → Type 0
-AnswersSolve file old (Solved x) = IsSolution x.weights x.order x.answer.value x.answer.bound x.answer.nodes × IfSome old (λ w. input_named w.files file ≡ Some (Ok x.weights))
-AnswersSolve file old (Refused (Input refusal)) = IfSome old (λ w. input_named w.files file ≡ Some (Err refusal))
-AnswersSolve file old (Refused Words) = ⊥
-AnswersSolve file old (Refused LongCertificate) = ⊥
-AnswersSolve file old (Checked x) = ⊥
+abbrev pub AnswersSolve : List ℕ → ℕ → Option (List ℕ) → Option World → Reply → Type 0
+AnswersSolve file nodes cert old (Solved x) = IsSolved nodes cert x × IfSome old (λ w. input_named w.files file ≡ Some (Ok x.weights))
+AnswersSolve file nodes cert old (Refused (Input refusal)) = IfSome old (λ w. input_named w.files file ≡ Some (Err refusal))
+AnswersSolve file nodes cert old (Refused Words) = ⊥
+AnswersSolve file nodes cert old (Refused LongCertificate) = ⊥
+AnswersSolve file nodes cert old (Checked x) = ⊥
 
 -- the file is accepted with C, and the checker's answer for the certificate is this one
 pub record IsChecked (file cert : List ℕ) (w : World) (C : Matrix) (answer : CheckAnswer) : Type 0 where
@@ -95,7 +100,7 @@ AnswersCheck file cert old (Solved x) = ⊥
 
 -- the reply is the one to this command, and where files are told, to what they hold
 abbrev pub AnswersCommand : Command → Option World → Reply → Type 0
-AnswersCommand (Solve file cert) old reply = AnswersSolve file old reply
+AnswersCommand (Solve file nodes cert) old reply = AnswersSolve file nodes cert old reply
 AnswersCommand (Check file cert) old reply = AnswersCheck file cert old reply
 
 abbrev pub Answers : Option Command → Option World → Reply → Type 0
@@ -119,7 +124,7 @@ certificate_file (Some name) x = Some (record { name = name; bytes = certificate
 
 -- the name under which a command leaves a certificate
 abbrev pub cert_name : Command → Option (List ℕ)
-cert_name (Solve file cert) = cert
+cert_name (Solve file nodes cert) = cert
 cert_name (Check file cert) = None
 
 -- the file that a reply leaves under this name
@@ -158,11 +163,11 @@ pub record ExactlyWhere (status answer : ℕ) (fact fault : Type 0) : Type 0 whe
 
 -- the file was accepted with C, what was printed is the answer for an order of C's objects, and a certificate of it
 -- stands under the name, if there is one
-pub record Solves (file : List ℕ) (cert : Option (List ℕ)) (w : World) (old new : Option World) (status : ℕ) : Type 0 where
+pub record Solves (file : List ℕ) (nodes : ℕ) (cert : Option (List ℕ)) (w : World) (old new : Option World) (status : ℕ) : Type 0 where
   pub solved : Solution
   pub accepted_file : input_named w.files file ≡ Some (Ok solved.weights)
-  pub solution : IsSolution solved.weights solved.order solved.answer.value solved.answer.bound solved.answer.nodes
-  pub certificate : IsTreeCertificate solved.weights (certificate_of solved)
+  pub solution : IsSolved nodes cert solved
+  pub certificate : IfSome cert (λ _. IsTreeCertificate solved.weights (certificate_of solved))
   pub status_is : status ≡ solved_status solved.answer.value solved.answer.bound
   pub left : settled new ≡ with_printed (solution_text solved) (with_file (certificate_file cert solved) (settled old))
 
@@ -170,7 +175,7 @@ pub record Solves (file : List ℕ) (cert : Option (List ℕ)) (w : World) (old 
 abbrev pub SolvesFile : Option Command → World → Option World → Option World → ℕ → Type 0
 SolvesFile None w old new status = ⊤
 SolvesFile (Some (Check file cert)) w old new status = ⊤
-SolvesFile (Some (Solve file cert)) w old new status = (status ≡ 0) ⊎ (status ≡ 6) → Solves file cert w old new status
+SolvesFile (Some (Solve file nodes cert)) w old new status = (status ≡ 0) ⊎ (status ≡ 6) → Solves file nodes cert w old new status
 
 -- the checker accepts the certificate, no order of the file weighs more than the bound, and both numbers were printed
 pub record Accepts (file cert : List ℕ) (w : World) (old new : Option World) (status : ℕ) : Type 0 where
@@ -186,7 +191,7 @@ pub record Accepts (file cert : List ℕ) (w : World) (old new : Option World) (
 -- with status 0 or 6, `check` accepts its certificate
 abbrev pub AcceptsCertificate : Option Command → World → Option World → Option World → ℕ → Type 0
 AcceptsCertificate None w old new status = ⊤
-AcceptsCertificate (Some (Solve file cert)) w old new status = ⊤
+AcceptsCertificate (Some (Solve file nodes cert)) w old new status = ⊤
 AcceptsCertificate (Some (Check file cert)) w old new status = (status ≡ 0) ⊎ (status ≡ 6) → Accepts file cert w old new status
 
 -- the file of `check` is accepted, and the checker rejects the certificate
@@ -196,7 +201,7 @@ pub record IsRejection (file cert : List ℕ) (w : World) (line : ℕ) (reason :
 
 abbrev pub Rejects : Option Command → World → ℕ → Reason → Type 0
 Rejects None w line reason = ⊥
-Rejects (Some (Solve file cert)) w line reason = ⊥
+Rejects (Some (Solve file nodes cert)) w line reason = ⊥
 Rejects (Some (Check file cert)) w line reason = IsRejection file cert w line reason
 
 -- the certificate of the command is rejected at a line
@@ -210,7 +215,7 @@ PrintsRejection command w old new = (line : ℕ) × (reason : Reason) × Rejects
 -- the file of `check` is accepted, and the certificate is longer than the checker reads
 abbrev pub HasLongCertificate : Option Command → World → Type 0
 HasLongCertificate None w = ⊥
-HasLongCertificate (Some (Solve file cert)) w = ⊥
+HasLongCertificate (Some (Solve file nodes cert)) w = ⊥
 HasLongCertificate (Some (Check file cert)) w = (C : Matrix) × IsChecked file cert w C too_long
 
 -- an input of the command is refused with this line
@@ -239,7 +244,7 @@ EndsBy too_long status = (status ≡ 3) ⊎ (status ≡ 5)
 -- accepted inputs and no fault leave no other end
 abbrev pub IsComplete : Option Command → World → ℕ → ℕ → ℕ → Type 0
 IsComplete None w before now status = ⊤
-IsComplete (Some (Solve file cert)) w before now status =
+IsComplete (Some (Solve file nodes cert)) w before now status =
     (C : Matrix) → input_named w.files file ≡ Some (Ok C) → ¬ (Rose before now) → (status ≡ 0) ⊎ (status ≡ 6) ⊎ (status ≡ 5)
 IsComplete (Some (Check file cert)) w before now status =
     (C : Matrix) (bytes : List ℕ) → input_named w.files file ≡ Some (Ok C) → file_named w.files cert ≡ Some bytes → ¬ (Rose before now) → EndsBy (check_answer C bytes) status

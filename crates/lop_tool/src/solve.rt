@@ -1,31 +1,47 @@
 // What `solve` replies.
-ghost use Rattle.std.specs.Prelude.{◌≡◌, ◌≤◌, ◌^◌, pos, ◌≤ℤ◌, Option, IfOk, IfErr};
+ghost use Rattle.std.specs.Prelude.{◌≡◌, ◌≤◌, length, IfOk, IfErr};
+ghost use Rattle.lop_core.specs.Tree.{out_count};
+ghost use Rattle.lop_core.specs.Machine.{state_bound};
+ghost use Rattle.lop_core.specs.Core.{HasHistory};
+ghost use Rattle.lop_core.specs.Outcome.{IsFinished};
 ghost use Rattle.lop_desk.specs.Whole.{OnlyOpens};
-ghost use Rattle.lop_tool.specs.Reply.{IsSolution, IsPrintable};
-ghost use Rattle.lop_tool.specs.Run.{AnswersSolve};
+ghost use Rattle.lop_tool.specs.Reply.{IsSolution, IsSearched, IsPrintable};
+ghost use Rattle.lop_tool.specs.Run.{AnswersSolve, IsSolved};
 ghost use Rattle.lop_tool.specs.Stops.{InputCause};
 ghost use Rattle.lop_tool.specs.Keeping.{CanBeKept, IsCertifiable};
+ghost use Rattle.lop_tool.specs.declared.reply.Reply.TheVariants as Reply;
 
 use crate::bound::{pair_bound_of, value};
 use crate::input::read_input;
 use crate::reply::{Refusal, Reply, Solution, Stop};
 use crate::report::Answer;
+use crate::search::Worker;
 use crate::start::start_order;
+use crate::words::NameWord;
+use lop_core::Core;
 use lop_desk::Desk;
-use lop_model::Weights;
+use lop_model::{Order, Weights};
 use std::alloc::{AllocError, Global};
 
-/// The reply to `solve` of the named file.
-pub fn solve<D: Desk>(alloc: Global, file: &str, desk: &mut D) -> Result<Reply, Stop>
+/// The reply to `solve` of the named file, with so many nodes to evaluate at most, and with the name of a certificate.
+pub fn solve<D: Desk>(
+    alloc: Global,
+    file: &str,
+    nodes: u32,
+    cert: &Option<NameWord>,
+    desk: &mut D,
+) -> Result<Reply, Stop>
+    requires positive { 1 ≤ nodes }
+    requires within_limit { nodes ≤ 1000000 }
     ensures world { OnlyOpens (D.told desk.old) (D.told desk.new) }
     ensures later { D.faults desk.old ≤ D.faults desk.new }
-    ensures reply { IfOk result (AnswersSolve file.now (D.told desk.old)) }
+    ensures reply { IfOk result (AnswersSolve file.now nodes cert.now (D.told desk.old)) }
     ensures printable { IfOk result IsPrintable }
     ensures kept { IfOk result CanBeKept }
     ensures stop { IfErr result (InputCause file.now (D.told desk.old) (D.faults desk.old) (D.faults desk.new)) }
 {
     match read_input(alloc, file, desk) {
-        Ok(Ok(weights)) => match solution(alloc, weights) {
+        Ok(Ok(weights)) => match solution(alloc, weights, nodes, cert) {
             Ok(solution) => Ok(Reply::Solved(solution)),
             Err(AllocError) => Err(Stop::Memory),
         },
@@ -34,11 +50,74 @@ pub fn solve<D: Desk>(alloc: Global, file: &str, desk: &mut D) -> Result<Reply, 
     }
 }
 
+fn solution(
+    alloc: Global,
+    weights: Weights,
+    nodes: u32,
+    cert: &Option<NameWord>,
+) -> Result<Solution, AllocError>
+    requires positive { 1 ≤ nodes }
+    requires within_limit { nodes ≤ 1000000 }
+    ensures weights { IfOk result (λ x. x.weights ≡ weights) }
+    ensures solution { IfOk result (IsSolved nodes cert.now) }
+    ensures printable { IfOk result (λ x. IsPrintable (Reply.Solved x)) }
+    ensures certifiable { IfOk result IsCertifiable }
+{
+    match cert {
+        None => searched(alloc, weights, nodes),
+        Some(_) => bounded(alloc, weights),
+    }
+}
+
+// What a search finds that begins with the start order and evaluates so many nodes at most.
+fn searched(alloc: Global, weights: Weights, nodes: u32) -> Result<Solution, AllocError>
+    requires positive { 1 ≤ nodes }
+    requires within_limit { nodes ≤ 1000000 }
+    ensures weights { IfOk result (λ x. x.weights ≡ weights) }
+    ensures solution { IfOk result (λ x. IsSearched x.weights nodes x.order x.answer.value x.answer.bound x.answer.nodes) }
+    ensures printable { IfOk result (λ x. IsPrintable (Reply.Solved x)) }
+    ensures certifiable { IfOk result IsCertifiable }
+{
+    let n = weights.n();
+    let mut order = start_order(alloc, &weights)?;
+    let mut core = Core::prepare(alloc, &weights, &order, nodes)?;
+    let mut worker = Worker::new(alloc, n)?;
+    let answer = finish(&mut worker, &mut core, &mut order);
+    Ok(Solution {
+        weights,
+        order,
+        answer,
+    })
+}
+
+// Searches to the end: the numbers that the core has then, and its order.
+fn finish(worker: &mut Worker, core: &mut Core, order: &mut Order) -> Answer
+    requires same_n { worker.old ≡ core.old.problem.weights.size }
+    requires order { length order.old ≡ core.old.problem.weights.size }
+    requires history { HasHistory core.old }
+    requires none_out { out_count core.old.state.nodes ≡ 0 }
+    ensures same_problem { core.new.problem ≡ core.old.problem }
+    ensures history { HasHistory core.new }
+    ensures finished { IsFinished core.new.problem core.new.state }
+    ensures order { order.new ≡ core.new.order }
+    ensures value { result.value ≡ core.new.state.best }
+    ensures bound { result.bound ≡ state_bound core.new.state }
+    ensures nodes { result.nodes ≡ core.new.state.evaluated }
+{
+    worker.search(core);
+    order.copy_from(core.best_order());
+    Answer {
+        value: core.best(),
+        bound: core.bound(),
+        nodes: core.evaluated(),
+    }
+}
+
 // The start order with its weight, and the pair bound.
-fn solution(alloc: Global, weights: Weights) -> Result<Solution, AllocError>
+fn bounded(alloc: Global, weights: Weights) -> Result<Solution, AllocError>
     ensures weights { IfOk result (λ x. x.weights ≡ weights) }
     ensures solution { IfOk result (λ x. IsSolution x.weights x.order x.answer.value x.answer.bound x.answer.nodes) }
-    ensures high { IfOk result (λ x. x.answer.value ≤ℤ pos (10 ^ 18)) }
+    ensures printable { IfOk result (λ x. IsPrintable (Reply.Solved x)) }
     ensures certifiable { IfOk result IsCertifiable }
 {
     let _n = weights.n();

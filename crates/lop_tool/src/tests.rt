@@ -43,13 +43,13 @@ fn texts(rt: HostRuntime) -> Result<(), Fail> {
         ),
         (
             SECTORS,
-            6,
-            b"objects 3\norder 1 2 3\nvalue 10\nbound 12\nstatus spent\nnodes 1\ntotal 16\nlinearity 0.6250\n",
+            0,
+            b"objects 3\norder 1 2 3\nvalue 10\nbound 10\nstatus optimal\nnodes 5\ntotal 16\nlinearity 0.6250\n",
         ),
         (
             b"3\n0 2 0\n0 0 2\n2 0 0\n",
-            6,
-            b"objects 3\norder 1 2 3\nvalue 4\nbound 6\nstatus spent\nnodes 1\ntotal 6\nlinearity 0.6666\n",
+            0,
+            b"objects 3\norder 1 2 3\nvalue 4\nbound 4\nstatus optimal\nnodes 5\ntotal 6\nlinearity 0.6666\n",
         ),
         (
             b"2\n0 500000000000000000\n500000000000000000 0\n",
@@ -105,7 +105,7 @@ fn calls_that_fail(rt: HostRuntime) -> Result<(), Fail> {
         (
             &[11],
             1000,
-            b"objects 3\norder 1 2 3\nvalue 10\nbound 12\nstatus spent\nnodes 1\ntotal 16\n",
+            b"objects 3\norder 1 2 3\nvalue 10\nbound 10\nstatus optimal\nnodes 5\ntotal 16\n",
         ),
         (&[], 12, b"objects 3\nor"),
     ];

@@ -3,7 +3,7 @@ ghost use Rattle.std.specs.Prelude.{◌≡◌, ◌≤◌, None, Some, map, IfSom
 ghost use Rattle.std.specs.String.{string_bytes};
 ghost use Rattle.lop_desk.specs.Whole.{OnlyOpens};
 ghost use Rattle.lop_tool.specs.declared.reply.Refusal.TheVariants.{Words};
-ghost use Rattle.lop_tool.specs.Command.{command_of};
+ghost use Rattle.lop_tool.specs.Command.{command_of, HasBudget};
 ghost use Rattle.lop_tool.specs.Reply.{refusal_line, IsPrintable};
 ghost use Rattle.lop_tool.specs.Run.{AnswersCommand, StopCause, Ended, Faulted, ExactlyWhere, SolvesFile, AcceptsCertificate, IsRejected, PrintsRejection, IsRefused, PrintsRefusal, PrintsOnly, LeavesAtMost, LeavesAll, IsComplete};
 ghost use Rattle.lop_tool.specs.Keeping.{CanBeKept};
@@ -23,8 +23,9 @@ pub fn run<D: Desk>(alloc: Global, words: &[String], desk: &mut D) -> u8
     ensures later { D.faults desk.old ≤ D.faults desk.new }
     ensures statuses { result ≤ 6 }
 
-    // The printed order is the start order of the file's objects, the value its weight, the bound no order's weight
-    // exceeds; the certificate is the text of a true one with these numbers, and no other file changes.
+    // The printed order is an order of the file's objects, the value its weight, the bound no order's weight exceeds;
+    // the numbers are those of a finished search, or with a certificate, of the start order and the pair bound; the
+    // certificate is the text of a true one with these numbers, and no other file changes.
     ensures solves { let command = command_of (map (λ s. string_bytes s) words.now) in
         IfSome (D.told desk.old) (λ w. SolvesFile command w (D.told desk.old) (D.told desk.new) result) }
 
@@ -94,6 +95,7 @@ fn refuse_words<D: Desk>(desk: &mut D, room: &mut TextRoom) -> u8
 
 // The reply is decided, and then delivered.
 fn answer<D: Desk>(alloc: Global, command: &Command, desk: &mut D, room: &mut TextRoom) -> u8
+    requires { HasBudget command.now }
     ensures later { D.faults desk.old ≤ D.faults desk.new }
     ensures ended { Ended (Some command.now) (D.told desk.old) (D.told desk.new) (D.faults desk.old) (D.faults desk.new) result }
 {
@@ -106,6 +108,7 @@ fn answer<D: Desk>(alloc: Global, command: &Command, desk: &mut D, room: &mut Te
 
 // The reply to this command over the files of this desk.
 fn decide<D: Desk>(alloc: Global, command: &Command, desk: &mut D) -> Result<Reply, Stop>
+    requires { HasBudget command.now }
     ensures world { OnlyOpens (D.told desk.old) (D.told desk.new) }
     ensures later { D.faults desk.old ≤ D.faults desk.new }
     ensures reply { IfOk result (AnswersCommand command.now (D.told desk.old)) }
@@ -114,7 +117,7 @@ fn decide<D: Desk>(alloc: Global, command: &Command, desk: &mut D) -> Result<Rep
     ensures stop { IfErr result (StopCause (Some command.now) (D.told desk.old) (D.faults desk.old) (D.faults desk.new)) }
 {
     match command {
-        Command::Solve { file, .. } => solve(alloc, file.text(), desk),
+        Command::Solve { file, nodes, cert } => solve(alloc, file.text(), *nodes, cert, desk),
         Command::Check { file, cert } => check(alloc, file.text(), cert.text(), desk),
     }
 }

@@ -1,9 +1,11 @@
 // The command line.
-ghost use Rattle.std.specs.Prelude.{◌≡◌, true, map, IfOk, IfErr};
+ghost use Rattle.std.specs.Prelude.{◌≡◌, Some, true, false, map, IfOk, IfErr, MatchOption};
 ghost use Rattle.std.specs.String.{string_bytes};
-ghost use Rattle.lop_tool.specs.Command.{command_of, solve_command, check_command, is_name_word};
+ghost use Rattle.lop_desk.specs.Number.{digits_value};
+ghost use Rattle.lop_tool.specs.Command.{command_of, solve_command, option_command, check_command, with_certificate, with_budget, is_name_word, is_budget};
 ghost use Rattle.lop_tool.specs.WordsFault.{IsWordsFault, IsNameFault};
 
+use lop_desk::plain_number;
 use std::alloc::Global;
 use std::marker::Model;
 
@@ -33,9 +35,11 @@ impl NameWord {
 /// What the words ask for.
 #[derive(Drop)]
 pub enum Command {
-    /// Solve the file, and with a name, write a certificate there.
+    /// Solve the file by evaluating so many nodes at most. With a name, bound it without a search, and write a
+    /// certificate there.
     Solve {
         file: NameWord,
+        nodes: u32,
         cert: Option<NameWord>,
     },
     /// Check the certificate against the file.
@@ -44,6 +48,12 @@ pub enum Command {
         cert: NameWord,
     },
 }
+
+/// How many nodes may be evaluated where the words don't say.
+const DEFAULT_BUDGET: u32 = 10_000;
+
+/// The greatest number of nodes that the words may ask for.
+const GREATEST_BUDGET: u64 = 1_000_000;
 
 /// Why the words are no command.
 #[derive(Clone, Copy, Debug, PartialEq, Eq)]
@@ -77,19 +87,75 @@ fn solve_words(alloc: Global, file: NameWord, words: &[String]) -> Result<Comman
     ensures command { IfOk result (λ command. solve_command file (map (λ s. string_bytes s) words.now) ≡ Some command) }
     ensures fault { IfErr result (IsWordsFault (solve_command file (map (λ s. string_bytes s) words.now))) }
 {
-    match words {
-        [] => Ok(Command::Solve { file, cert: None }),
-        [option, name] if option.as_str() == "--cert" => {
-            let name = name_word(alloc, name.as_str())?;
-            if name.text() == file.text() {
-                return Err(WordsFault::Usage);
-            }
-            Ok(Command::Solve {
-                file,
-                cert: Some(name),
-            })
-        }
-        _ => Err(WordsFault::Usage),
+    if words.is_empty() {
+        return Ok(Command::Solve {
+            file,
+            nodes: DEFAULT_BUDGET,
+            cert: None,
+        });
+    }
+    if words.len() != 2 {
+        return Err(WordsFault::Usage);
+    }
+    option_words(alloc, file, words[0].as_str(), words[1].as_str())
+}
+
+// `solve` with an option.
+fn option_words(
+    alloc: Global,
+    file: NameWord,
+    option: &str,
+    value: &str,
+) -> Result<Command, WordsFault>
+    ensures command { IfOk result (λ command. option_command file option.now value.now ≡ Some command) }
+    ensures fault { IfErr result (IsWordsFault (option_command file option.now value.now)) }
+{
+    if option == "--cert" {
+        certificate_word(alloc, file, value)
+    } else if option == "--nodes" {
+        budget_word(file, value)
+    } else {
+        Err(WordsFault::Usage)
+    }
+}
+
+// `solve` with a certificate.
+fn certificate_word(alloc: Global, file: NameWord, name: &str) -> Result<Command, WordsFault>
+    ensures command { IfOk result (λ command. with_certificate file name.now ≡ Some command) }
+    ensures fault { IfErr result (IsWordsFault (with_certificate file name.now)) }
+{
+    let name = name_word(alloc, name)?;
+    if name.text() == file.text() {
+        return Err(WordsFault::Usage);
+    }
+    Ok(Command::Solve {
+        file,
+        nodes: DEFAULT_BUDGET,
+        cert: Some(name),
+    })
+}
+
+// `solve` with a node budget.
+fn budget_word(file: NameWord, nodes: &str) -> Result<Command, WordsFault>
+    ensures command { IfOk result (λ command. with_budget file nodes.now ≡ Some command) }
+    ensures fault { IfErr result (IsWordsFault (with_budget file nodes.now)) }
+{
+    match budget(nodes) {
+        Some(nodes) => Ok(Command::Solve {
+            file,
+            nodes,
+            cert: None,
+        }),
+        None => Err(WordsFault::Usage),
+    }
+}
+
+fn budget(word: &str) -> Option<u32>
+    ensures { MatchOption result (is_budget word.now ≡ false) (λ n. (is_budget word.now ≡ true) × (n ≡ digits_value word.now)) }
+{
+    match plain_number(word.as_bytes()) {
+        Some(nodes) if nodes >= 1 && nodes <= GREATEST_BUDGET => Some(nodes as u32),
+        _ => None,
     }
 }
 

@@ -1,0 +1,62 @@
+-- The node budget of each command is within its limits.
+use Rattle.std.proofs.Common.{◌≡◌, ℕ, ◌≤◌, Bool, true, false, cond, ◌&&◌, List, [], ◌∷◌, Option, None, Some, refl, sym, subst, arith}
+use Rattle.std.proofs.lemmas.Bool.{leb-true}
+use Rattle.std.specs.Prelude.{codes, nat_le}
+use Rattle.std.specs.Str.{bytes_eq}
+use Rattle.lop_desk.specs.Number.{digits_value}
+use Rattle.lop_tool.specs.declared.words.Command.{Command}
+use Rattle.lop_tool.specs.declared.words.Command.TheVariants.{Solve, Check}
+use Rattle.lop_tool.specs.Command.{command_of, solve_command, check_command, with_certificate, with_budget, default_budget, is_name_word, is_plain, is_budget, HasBudget}
+
+some_budget : (c d : Command) → Some c ≡ Some d → HasBudget c → HasBudget d
+some_budget c d same has = let e : c ≡ d = cc in subst HasBudget e has
+
+with_certificate_budget : (b c : Bool) (file name : List ℕ) (command : Command) → cond b (cond c None (Some (Solve file default_budget (Some name)))) None ≡ Some command → HasBudget command
+with_certificate_budget false c file name command is = absurd cc
+with_certificate_budget true true file name command is = absurd cc
+with_certificate_budget true false file name command is = some_budget (Solve file default_budget (Some name)) command is (omega arith, omega arith)
+
+within : (a b c : Bool) (n : ℕ) → b ≡ nat_le 1 n → c ≡ nat_le n 1000000 → (a && (b && c)) ≡ true → (1 ≤ n) × (n ≤ 1000000)
+within false b c n low high is = absurd cc
+within true false c n low high is = absurd cc
+within true true false n low high is = absurd cc
+within true true true n low high is = (leb-true 1 n (sym low), leb-true n 1000000 (sym high))
+
+with_budget_budget : (b : Bool) (file word : List ℕ) (command : Command) → b ≡ is_budget word → cond b (Some (Solve file (digits_value word) None)) None ≡ Some command → HasBudget command
+with_budget_budget false file word command test is = absurd cc
+with_budget_budget true file word command test is =
+    some_budget (Solve file (digits_value word) None) command is (within (is_plain word) (nat_le 1 (digits_value word)) (nat_le (digits_value word) 1000000) (digits_value word) refl refl cc)
+
+option_budget : (c b : Bool) (file value : List ℕ) (command : Command) → cond c (with_certificate file value) (cond b (with_budget file value) None) ≡ Some command → HasBudget command
+option_budget true b file value command is = with_certificate_budget (is_name_word value) (bytes_eq value file) file value command is
+option_budget false true file value command is = with_budget_budget (is_budget value) file value command refl is
+option_budget false false file value command is = absurd cc
+
+solve_budget : (file : List ℕ) (words : List (List ℕ)) (command : Command) → solve_command file words ≡ Some command → HasBudget command
+solve_budget file [] command is = some_budget (Solve file default_budget None) command is (omega arith, omega arith)
+solve_budget file (option ∷ []) command is = absurd cc
+solve_budget file (option ∷ value ∷ []) command is = option_budget (bytes_eq option (codes "--cert")) (bytes_eq option (codes "--nodes")) file value command is
+solve_budget file (option ∷ value ∷ more ∷ words) command is = absurd cc
+
+check_kind_budget : (b : Bool) (file cert : List ℕ) (command : Command) → cond b (Some (Check file cert)) None ≡ Some command → HasBudget command
+check_kind_budget true file cert command is = some_budget (Check file cert) command is tt
+check_kind_budget false file cert command is = absurd cc
+
+check_budget : (file : List ℕ) (words : List (List ℕ)) (command : Command) → check_command file words ≡ Some command → HasBudget command
+check_budget file [] command is = absurd cc
+check_budget file (cert ∷ []) command is = check_kind_budget (is_name_word cert) file cert command is
+check_budget file (cert ∷ more ∷ words) command is = absurd cc
+
+either_budget : (b c d : Bool) (x y : Option Command) (command : Command) → (x ≡ Some command → HasBudget command) → (y ≡ Some command → HasBudget command) → cond b (cond c x (cond d y None)) None ≡ Some command → HasBudget command
+either_budget false c d x y command first second is = absurd cc
+either_budget true true d x y command first second is = first is
+either_budget true false true x y command first second is = second is
+either_budget true false false x y command first second is = absurd cc
+
+pub HasBudget-command : (words : List (List ℕ)) (command : Command) → command_of words ≡ Some command → HasBudget command
+HasBudget-command [] command is = absurd cc
+HasBudget-command (verb ∷ []) command is = absurd cc
+HasBudget-command (verb ∷ format ∷ []) command is = absurd cc
+HasBudget-command (verb ∷ format ∷ file ∷ words) command is =
+    either_budget (bytes_eq format (codes "lolib") && is_name_word file) (bytes_eq verb (codes "solve")) (bytes_eq verb (codes "check")) (solve_command file words) (check_command file words) command
+    (solve_budget file words command) (check_budget file words command) is

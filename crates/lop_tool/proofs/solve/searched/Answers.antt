@@ -1,0 +1,32 @@
+use Rattle.std.proofs.Common.{◌≡◌, ◌∙◌, ap, arith}
+use Rattle.std.proofs.lemmas.Int.{ints}
+use Rattle.lop_core.specs.Core.{CoreFields}
+use Rattle.lop_tool.specs.Reply.{IsSearched}
+use Rattle.lop_tool.proofs.SearchedLemmas.{searched_by, searched_small, HasSmallNumbers}
+use Rattle.lop_tool.proofs.solve.searched.Goals as goal
+
+found : (c : goal.After-drop-core-inside-6) → IsSearched c.args.weights c.args.nodes c.finish-answer.new.order c.finish-answer.result.value c.finish-answer.result.bound c.finish-answer.result.nodes
+found c =
+    let f = c.finish-answer in
+    let problem = f.ensures.same_problem ∙ ap (λ (x : CoreFields). x.problem) c.in_ok-core.ensures in
+    rw (f.ensures.order, f.ensures.value, f.ensures.bound, f.ensures.nodes)
+    (searched_by c.args.weights c.in_ok-order.order c.args.nodes f.new.core problem f.ensures.history f.ensures.finished c.n-n.ensures.weights c.in_ok-order.ensures.only)
+
+small : (c : goal.After-drop-core-inside-6) → HasSmallNumbers c.finish-answer.result.value c.finish-answer.result.bound
+small c = searched_small c.args.weights c.args.nodes c.finish-answer.new.order c.finish-answer.result.value c.finish-answer.result.bound c.finish-answer.result.nodes (found c)
+
+pub returns-clause-solution : goal.returns-clause-solution
+returns-clause-solution c = found c
+
+pub returns-clause-printable : goal.returns-clause-printable
+returns-clause-printable c = let high = (small c).high in ((found c).order.complete, omega (arith, ints))
+
+pub returns-clause-certifiable : goal.returns-clause-certifiable
+returns-clause-certifiable c =
+    let n = (found c).order.complete in
+    let w = (found c).weights in record {
+      positive = omega (arith, n, w.positive);
+      within_limit = omega (arith, n, w.within_limit);
+      value = (small c).value;
+      bound = (small c).bound;
+    }

@@ -1,5 +1,5 @@
 -- Over a search, best never falls and the bound never rises.
-use Rattle.std.proofs.Common.{◌≡◌, ℕ, ◌<◌, refl, List, [], ◌∷◌, ◌++◌, length, inl, inr, arith, sym, Some, None, Option, subst, suc, zero, Bool, true, false, cond, ap}
+use Rattle.std.proofs.Common.{◌≡◌, ℕ, ◌<◌, refl, List, [], ◌∷◌, length, inl, inr, arith, sym, Some, None, Option, subst, suc, zero, Bool, true, false, cond, ap}
 use Rattle.std.specs.Prelude.{slice_get, ℤ, ◌≤ℤ◌, int_lt, fold}
 use Rattle.std.specs.Int.{int_max}
 use Rattle.std.proofs.lemmas.Int.{ints, clamps}
@@ -14,7 +14,7 @@ use Rattle.lop_core.specs.declared.node.Standing.TheVariants.{Idle, Out, Split}
 use Rattle.lop_core.specs.declared.journal.Entry.{Entry}
 use Rattle.lop_core.specs.declared.journal.Entry.TheVariants.{Take, Report}
 use Rattle.lop_core.specs.Tree.{no_pair, reversed, child, node_at, is_split}
-use Rattle.lop_core.specs.Machine.{Problem, SearchState, after, changed, settled, closed, divided, raised_by, state_bound, root_state}
+use Rattle.lop_core.specs.Machine.{Problem, SearchState, after, changed, settled, closed, divided, raised_by, state_bound}
 use Rattle.lop_core.specs.Journal.{IsAttained, replay, MayTake, MayReport, MayFollow, IsLawfulJournal}
 use Rattle.lop_core.specs.Core.{CoreFields, HasHistory}
 use Rattle.lop_core.proofs.Lists.{slice_get-set_cases, slice_get_two_cases, by_following}

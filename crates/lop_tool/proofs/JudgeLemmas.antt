@@ -1,5 +1,5 @@
 -- The fixings of a branching path.
-use Rattle.std.proofs.Common.{◌≡◌, ℕ, List, Result, Ok, Err, inl, inr}
+use Rattle.std.proofs.Common.{ℕ, List, Result, Ok, Err, inl, inr}
 use Rattle.std.specs.Prelude.{OnOk, IfErr}
 use Rattle.lop_model.specs.declared.pair.Pair.{Pair}
 use Rattle.lop_model.specs.Fixings.{IsClosure, IsBranchingPath, HaveSameExtensions}

@@ -1,8 +1,7 @@
 -- What the core of a finished search says of its weights.
-use Rattle.std.proofs.Common.{◌≡◌, ℕ, [], ◌^◌, ◌<◌, ◌≤◌, List, length, ℤ, pos, neg_ℤ, ◌≤ℤ◌, sym, ◌∙◌, ap, subst, arith, refl, negsuc}
+use Rattle.std.proofs.Common.{◌≡◌, ℕ, [], ◌^◌, ◌<◌, List, ℤ, pos, neg_ℤ, ◌≤ℤ◌, sym, ap, subst, arith}
 use Rattle.std.specs.Prelude.{nat_abs}
 use Rattle.std.proofs.lemmas.Int.{ints}
-use Rattle.lop_model.specs.Order.{IsOrder}
 use Rattle.lop_model.specs.Matrix.{Matrix, IsWeights, weight}
 use Rattle.lop_model.proofs.MatrixLemmas.{weight_within}
 use Rattle.lop_model.proofs.BoundLemmas.{pair_bound_within}

@@ -68,9 +68,21 @@ fn texts(rt: HostRuntime) -> Result<(), Fail> {
 }
 
 #[test]
+fn a_spent_budget(rt: HostRuntime) -> Result<(), Fail> {
+    let alloc = rt.alloc();
+    let mut memory = desk(alloc, SECTORS, &[], 1000)?;
+    let words = ["solve", "lolib", "a", "--nodes", "3"];
+    assert_eq!(rt; status(alloc, &words, &mut memory)?, 6);
+    let printed =
+        b"objects 3\norder 1 2 3\nvalue 10\nbound 12\nstatus spent\nnodes 3\ntotal 16\nlinearity 0.6250\n";
+    assert_eq!(rt; memory.printed(), printed.as_slice());
+    Ok(())
+}
+
+#[test]
 fn words_that_are_no_command(rt: HostRuntime) -> Result<(), Fail> {
     let alloc = rt.alloc();
-    let cases: [&[&str]; 13] = [
+    let cases: [&[&str]; 18] = [
         &[],
         &["solve"],
         &["solve", "lolib"],
@@ -81,6 +93,11 @@ fn words_that_are_no_command(rt: HostRuntime) -> Result<(), Fail> {
         &["Solve", "lolib", "a"],
         &["solve", "lolib", "a", "--cert"],
         &["solve", "lolib", "a", "--cert", "a"],
+        &["solve", "lolib", "a", "--nodes", "0"],
+        &["solve", "lolib", "a", "--nodes", "010"],
+        &["solve", "lolib", "a", "--nodes", "1000001"],
+        &["solve", "lolib", "a", "--nodes", "3", "--nodes", "3"],
+        &["solve", "lolib", "a", "--nodes", "3", "--cert", "c"],
         &["check", "lolib", "a"],
         &["check", "lolib", "a", "-c"],
         &["--help"],

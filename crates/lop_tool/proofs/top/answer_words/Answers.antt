@@ -1,4 +1,4 @@
-use Rattle.std.proofs.Common.{List, map, String, Global}
+use Rattle.std.proofs.Common.{map}
 use Rattle.std.specs.String.{string_bytes}
 use Rattle.lop_tool.proofs.Budget.{HasBudget-command}
 use Rattle.lop_tool.proofs.top.answer_words.Goals as goal

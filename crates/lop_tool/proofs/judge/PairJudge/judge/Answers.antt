@@ -1,4 +1,4 @@
-use Rattle.std.proofs.Common.{◌≡◌, ◌∙◌, sym, ap, subst, List, ℕ, FitsSigned, rules}
+use Rattle.std.proofs.Common.{◌≡◌, ◌∙◌, subst, List, ℕ, FitsSigned, rules}
 use Rattle.std.specs.Prelude.{IfSome, IfNone}
 use Rattle.std.proofs.lemmas.Int.{to_z-of_z}
 use mir.Syntax.{w128}

@@ -1,7 +1,7 @@
-use Rattle.std.proofs.Common.{◌≡◌, ℕ, ◌+◌, ◌∙◌, sym, ap, subst, refl, arith}
+use Rattle.std.proofs.Common.{◌≡◌, ℕ, ◌+◌, ◌∙◌, sym, subst, refl}
 use Rattle.lop_core.specs.Tree.{out_count}
 use Rattle.lop_core.specs.Machine.{IsOutTo}
-use Rattle.lop_core.specs.Core.{CoreFields, IsReported}
+use Rattle.lop_core.specs.Core.{IsReported}
 use Rattle.lop_core.proofs.Alone.{alone_finished, taken_in, turned}
 use Rattle.lop_tool.proofs.search.Worker.evaluate.Goals as goal
 

@@ -61,15 +61,23 @@ pair_absolute-le C a b l m =
     let all : pair_sum C.size f ≤ℤ absolute_total C = pair_sum-le C.size f (pair_absolute C) (λ i j _ _. picks_pair (pair_absolute C i j) i j a b (omega (arith, ints))) in
     omega (arith, ints)
 
+-- the sum of all is no less than 0
+pub absolute_total-positive : (C : Matrix) → pos 0 ≤ℤ absolute_total C
+absolute_total-positive C =
+    let none : pair_sum C.size (λ _ _. pos 0) ≡ pos 0 = pair_sum-none C.size (λ _ _. pos 0) (λ _ _ _ _. refl) in
+    let le : pair_sum C.size (λ _ _. pos 0) ≤ℤ absolute_total C = pair_sum-le C.size (λ _ _. pos 0) (pair_absolute C) (λ i j _ _. omega (arith, ints)) in
+    omega (arith, ints)
+
 difference_within : (x y : ℤ) → ((x -ℤ y) ≤ℤ pos (unsigned_abs x + unsigned_abs y)) × (neg_ℤ (pos (unsigned_abs x + unsigned_abs y)) ≤ℤ (x -ℤ y))
 difference_within x y = (omega (arith, ints, unsigned_abs_bounds x, unsigned_abs_bounds y), omega (arith, ints, unsigned_abs_bounds x, unsigned_abs_bounds y))
 
--- so is what it gains
-pub margin_within : (C : Matrix) (a b : ℕ) → a < C.size → b < C.size → pos 0 ≤ℤ absolute_total C → (margin C a b ≤ℤ absolute_total C) × (neg_ℤ (absolute_total C) ≤ℤ margin C a b)
-margin_within C a b l m positive =
+-- what two objects gain one way or the other is within it too
+pub margin_within : (C : Matrix) (a b : ℕ) → a < C.size → b < C.size → (margin C a b ≤ℤ absolute_total C) × (neg_ℤ (absolute_total C) ≤ℤ margin C a b)
+margin_within C a b l m =
     let x = entry C a b in
     let y = entry C b a in
     let within = difference_within x y in
+    let positive = absolute_total-positive C in
     elim (cases_lt a b) [
       | inl before ↦ let le : pos (unsigned_abs x + unsigned_abs y) ≤ℤ absolute_total C = pair_absolute-le C a b before m in (omega (arith, ints), omega (arith, ints))
       | inr from ↦ elim (cases_lt b a) [
@@ -77,12 +85,6 @@ margin_within C a b l m positive =
         | inr to ↦ let e : a ≡ b = omega arith in let same : x ≡ y = ap (λ k. entry C a k) (sym e) ∙ ap (λ k. entry C k a) e in (omega (arith, ints), omega (arith, ints))
       ]
     ]
-
-pub absolute_total-positive : (C : Matrix) → pos 0 ≤ℤ absolute_total C
-absolute_total-positive C =
-    let none : pair_sum C.size (λ _ _. pos 0) ≡ pos 0 = pair_sum-none C.size (λ _ _. pos 0) (λ _ _ _ _. refl) in
-    let le : pair_sum C.size (λ _ _. pos 0) ≤ℤ absolute_total C = pair_sum-le C.size (λ _ _. pos 0) (pair_absolute C) (λ i j _ _. omega (arith, ints)) in
-    omega (arith, ints)
 
 -- ---- the rows of one flat list
 

@@ -1,4 +1,4 @@
-use Rattle.std.proofs.Common.{◌≡◌, ◌∙◌, ◌+◌, ◌<◌, ap, subst, get_or, length, arith}
+use Rattle.std.proofs.Common.{◌≡◌, ◌∙◌, ◌+◌, ◌<◌, ap, subst, get_or, arith}
 use Rattle.std.proofs.lemmas.Int.{ints}
 use Rattle.lop_model.specs.Order.{IsOrder}
 use Rattle.lop_model.specs.Matrix.{margin, weight}

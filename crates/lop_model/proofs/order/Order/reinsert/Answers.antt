@@ -1,4 +1,4 @@
-use Rattle.std.proofs.Common.{◌≡◌, ◌∙◌, ◌<◌, ap, length, arith}
+use Rattle.std.proofs.Common.{◌≡◌, ◌<◌, ap, length, arith}
 use Rattle.std.proofs.lemmas.Grind.{common_steps}
 use Rattle.lop_model.specs.Order.{IsOrder, after_insertion}
 use Rattle.lop_model.proofs.InsertLemmas.{IsOrder-after_insertion}

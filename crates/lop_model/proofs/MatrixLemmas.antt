@@ -1,13 +1,14 @@
 -- Weights of orders, and bounds on them.
-use Rattle.std.proofs.Common.{◌≢◌, sym, ◌≤◌, ◌+ℤ◌, inl, inr, arith, ◌≡◌, ℕ, ◌+◌, ◌<◌, Bool, true, false, cond, List, [], length, get_or, take, drop, get_or-take, get_or-drop, mul-le-mul_right, length-take, length-drop, min, ◌-◌, ◌*◌, ℤ, pos, negsuc, ◌≤ℤ◌, neg_ℤ, refl, ◌∙◌, ap}
+use Rattle.std.proofs.Common.{◌≢◌, sym, ◌≤◌, ◌+ℤ◌, ◌-ℤ◌, ◌⊎◌, eqb, ◌&&◌, inl, inr, arith, ◌≡◌, ℕ, ◌+◌, ◌<◌, Bool, true, false, cond, List, [], length, get_or, take, drop, get_or-take, get_or-drop, mul-le-mul_right, length-take, length-drop, min, ◌-◌, ◌*◌, ℤ, pos, negsuc, ◌≤ℤ◌, neg_ℤ, refl, ◌∙◌, ap}
 use Rattle.std.specs.Prelude.{unsigned_abs}
 use Rattle.std.proofs.lemmas.Int.{ints}
 use Rattle.std.proofs.lemmas.List.FromFn.{get_or-map-range_with_len, length-map-range_with_len}
 use Rattle.std.proofs.lemmas.Bool.{cases_lt}
+use Rattle.std.proofs.lemmas.Bool.Decides.{nat_tests}
 use Rattle.lop_model.specs.Sums.{sum_below, pair_sum}
 use Rattle.lop_model.specs.Order.{IsOrder, stands_before}
-use Rattle.lop_model.specs.Matrix.{Matrix, placed_entry, matrix_of, AreWeights, IsWeights, entry, absolute_total, weight}
-use Rattle.lop_model.proofs.SumLemmas.{sum_below-same, sum_below_more, sum_below-turned, pair_sum-le, pair_sum-negate}
+use Rattle.lop_model.specs.Matrix.{Matrix, placed_entry, matrix_of, AreWeights, IsWeights, entry, margin, pair_absolute, absolute_total, weight}
+use Rattle.lop_model.proofs.SumLemmas.{sum_below-same, sum_below_more, sum_below-turned, pair_sum-le, pair_sum-none, pair_sum-one, pair_sum-negate}
 use Rattle.lop_model.proofs.OrderLemmas.{pair_sum-order}
 
 -- the weight of an order, pair by pair
@@ -38,6 +39,52 @@ choice_within C b =
 -- the weight of an order is within the absolute sum
 pub weight_within : (C : Matrix) (s : List ℕ) → IsOrder C.size s → (weight C s ≤ℤ absolute_total C) × (neg_ℤ (absolute_total C) ≤ℤ weight C s)
 weight_within C s o = rw (weight-pairs C s o) (choice_within C (stands_before s))
+
+-- ---- what a pair of objects gains
+
+picks_pair : (x : ℤ) (i j a b : ℕ) → pos 0 ≤ℤ x → cond (eqb i a && eqb j b) x (pos 0) ≤ℤ x
+picks_pair x i j a b positive = grind (arith, ints, nat_tests)
+
+picks_no_pair : (x : ℤ) (i j a b : ℕ) → (i ≢ a) ⊎ (j ≢ b) → cond (eqb i a && eqb j b) x (pos 0) ≡ pos 0
+picks_no_pair x i j a b (inl ne) = grind (arith, nat_tests)
+picks_no_pair x i j a b (inr ne) = grind (arith, nat_tests)
+
+picks_this_pair : (x : ℤ) (a b : ℕ) → cond (eqb a a && eqb b b) x (pos 0) ≡ x
+picks_this_pair x a b = grind (arith, nat_tests)
+
+-- the absolute values of one pair are within the sum of all
+pub pair_absolute-le : (C : Matrix) (a b : ℕ) → a < b → b < C.size → pair_absolute C a b ≤ℤ absolute_total C
+pair_absolute-le C a b l m =
+    let f : ℕ → ℕ → ℤ = λ i j. cond (eqb i a && eqb j b) (pair_absolute C i j) (pos 0) in
+    let one : pair_sum C.size f ≡ f a b = pair_sum-one C.size a b f l m (λ i j _ _ ne. picks_no_pair (pair_absolute C i j) i j a b ne) in
+    let this : f a b ≡ pair_absolute C a b = picks_this_pair (pair_absolute C a b) a b in
+    let all : pair_sum C.size f ≤ℤ absolute_total C = pair_sum-le C.size f (pair_absolute C) (λ i j _ _. picks_pair (pair_absolute C i j) i j a b (omega (arith, ints))) in
+    omega (arith, ints)
+
+-- the sum of all is no less than 0
+pub absolute_total-positive : (C : Matrix) → pos 0 ≤ℤ absolute_total C
+absolute_total-positive C =
+    let none : pair_sum C.size (λ _ _. pos 0) ≡ pos 0 = pair_sum-none C.size (λ _ _. pos 0) (λ _ _ _ _. refl) in
+    let le : pair_sum C.size (λ _ _. pos 0) ≤ℤ absolute_total C = pair_sum-le C.size (λ _ _. pos 0) (pair_absolute C) (λ i j _ _. omega (arith, ints)) in
+    omega (arith, ints)
+
+difference_within : (x y : ℤ) → ((x -ℤ y) ≤ℤ pos (unsigned_abs x + unsigned_abs y)) × (neg_ℤ (pos (unsigned_abs x + unsigned_abs y)) ≤ℤ (x -ℤ y))
+difference_within x y = (omega (arith, ints, unsigned_abs_bounds x, unsigned_abs_bounds y), omega (arith, ints, unsigned_abs_bounds x, unsigned_abs_bounds y))
+
+-- what two objects gain one way or the other is within it too
+pub margin_within : (C : Matrix) (a b : ℕ) → a < C.size → b < C.size → (margin C a b ≤ℤ absolute_total C) × (neg_ℤ (absolute_total C) ≤ℤ margin C a b)
+margin_within C a b l m =
+    let x = entry C a b in
+    let y = entry C b a in
+    let within = difference_within x y in
+    let positive = absolute_total-positive C in
+    elim (cases_lt a b) [
+      | inl before ↦ let le : pos (unsigned_abs x + unsigned_abs y) ≤ℤ absolute_total C = pair_absolute-le C a b before m in (omega (arith, ints), omega (arith, ints))
+      | inr from ↦ elim (cases_lt b a) [
+        | inl after ↦ let le : pos (unsigned_abs y + unsigned_abs x) ≤ℤ absolute_total C = pair_absolute-le C b a after l in (omega (arith, ints), omega (arith, ints))
+        | inr to ↦ let e : a ≡ b = omega arith in let same : x ≡ y = ap (λ k. entry C a k) (sym e) ∙ ap (λ k. entry C k a) e in (omega (arith, ints), omega (arith, ints))
+      ]
+    ]
 
 -- ---- the rows of one flat list
 

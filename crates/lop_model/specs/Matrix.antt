@@ -1,4 +1,4 @@
-use Rattle.std.specs.Prelude.{◌≡◌, ℕ, ◌+◌, ◌*◌, ◌<◌, ◌≤◌, ◌^◌, List, [], length, take, drop, map, slice_index, slice_index_or, ℤ, pos, ◌+ℤ◌, ◌≤ℤ◌, unsigned_abs}
+use Rattle.std.specs.Prelude.{◌≡◌, ℕ, ◌+◌, ◌*◌, ◌<◌, ◌≤◌, ◌^◌, List, [], length, take, drop, map, slice_index, slice_index_or, ℤ, pos, ◌+ℤ◌, ◌-ℤ◌, ◌≤ℤ◌, unsigned_abs}
 use Rattle.std.specs.List.{range_with_len}
 use Rattle.lop_model.specs.Sums.{pair_sum}
 use Rattle.lop_model.specs.Order.{IsOrder}
@@ -20,7 +20,11 @@ entry C i j = slice_index_or (slice_index_or C.rows i []) j (pos 0)
 abbrev pub pair_total : Matrix → ℕ → ℕ → ℤ
 pair_total C i j = entry C i j +ℤ entry C j i
 
--- their absolute values, added up
+-- what an order gains by a before b in place of b before a
+abbrev pub margin : Matrix → ℕ → ℕ → ℤ
+margin C a b = entry C a b -ℤ entry C b a
+
+-- the absolute values of the two entries of a pair of objects, added up
 abbrev pub pair_absolute : Matrix → ℕ → ℕ → ℤ
 pair_absolute C i j = pos (unsigned_abs (entry C i j) + unsigned_abs (entry C j i))
 

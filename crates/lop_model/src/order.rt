@@ -1,5 +1,5 @@
 ghost use Rattle.std.specs.Prelude.{◌≡◌, ℕ, ◌<◌, length, slice_index, swap, IfOk, IfErr};
-ghost use Rattle.lop_model.specs.Order.{IsOrder};
+ghost use Rattle.lop_model.specs.Order.{IsOrder, after_insertion};
 ghost use Rattle.std.specs.List.{range_with_len};
 
 use std::alloc::{AllocError, Global};
@@ -98,6 +98,19 @@ impl Order {
         ensures { self.new ≡ swap self.old first second }
     {
         self.objects.swap(first as usize, second as usize);
+    }
+
+    /// Takes the object at `from` out and puts it in so that it stands at `to`; the others keep their order. O(n),
+    /// and no memory is taken.
+    pub fn reinsert(&mut self, from: u16, to: u16)
+        requires from { from < length self.old }
+        requires to { to < length self.old }
+        ensures { self.new ≡ after_insertion self.old from to }
+    {
+        let object = self.objects.remove(from as usize);
+        if self.objects.insert(to as usize, object).is_err() {
+            unreachable!()
+        }
     }
 
     /// Becomes the other order, in the room that it has. O(n).

@@ -42,6 +42,10 @@ fn orders(rt: HostRuntime) -> Result<(), Fail> {
     assert_eq!(rt; first.at(0), 1);
     assert_eq!(rt; first.at(1), 0);
     assert_eq!(rt; first.at(2), 2);
+    first.reinsert(2, 0);
+    assert_eq!(rt; first.at(0), 2);
+    assert_eq!(rt; first.at(1), 1);
+    assert_eq!(rt; first.at(2), 0);
     Ok(())
 }
 
@@ -72,6 +76,7 @@ fn three_sectors(rt: HostRuntime) -> Result<(), Fail> {
     assert_eq!(rt; copy.n(), 3);
     assert_eq!(rt; copy.at(0, 1), 5);
     assert_eq!(rt; copy.at(1, 0), 2);
+    assert_eq!(rt; copy.margin(1, 0), -3);
     assert_eq!(rt; copy.total(), 16);
     Ok(())
 }

@@ -1,5 +1,5 @@
-ghost use Rattle.std.specs.Prelude.{◌≡◌, ℕ, ◌*◌, ◌<◌, ◌≤◌, ◌^◌, pos, ◌≤ℤ◌, length, IfOk, IfErr};
-ghost use Rattle.lop_model.specs.Matrix.{entry, pair_absolute, absolute_total, matrix_of};
+ghost use Rattle.std.specs.Prelude.{◌≡◌, ℕ, ◌*◌, ◌<◌, ◌≤◌, ◌^◌, pos, neg_ℤ, ◌≤ℤ◌, length, IfOk, IfErr};
+ghost use Rattle.lop_model.specs.Matrix.{entry, margin, pair_absolute, absolute_total, matrix_of};
 
 use std::alloc::AllocError;
 use std::marker::Model;
@@ -45,6 +45,20 @@ fn entry_at(entries: &[i64], n: usize, a: usize, b: usize) -> i64
     entries[a * n + b]
 }
 
+// The entry in row a and column b less that in row b and column a.
+fn margin_at(entries: &[i64], n: usize, a: usize, b: usize) -> i64
+    requires square { length entries.now ≡ n * n }
+    requires within_limit { n ≤ 512 }
+    requires bounded_sum { absolute_total (matrix_of n entries.now) ≤ℤ pos (10 ^ 18) }
+    requires row { a < n }
+    requires column { b < n }
+    ensures value { result ≡ margin (matrix_of n entries.now) a b }
+    ensures low { neg_ℤ (pos (10 ^ 18)) ≤ℤ result }
+    ensures high { result ≤ℤ pos (10 ^ 18) }
+{
+    entry_at(entries, n, a, b) - entry_at(entries, n, b, a)
+}
+
 // The absolute values of the two entries of a pair, added up.
 fn pair_absolute_at(entries: &[i64], n: usize, a: usize, b: usize) -> i128
     requires square { length entries.now ≡ n * n }
@@ -75,7 +89,7 @@ fn absolute_sum(entries: &[i64], n: usize) -> i128
 }
 
 impl Weights {
-    ghost use Rattle.lop_model.specs.Matrix.{entry, total, matrix_of, AreWeights, IsWeights};
+    ghost use Rattle.lop_model.specs.Matrix.{entry, margin, total, matrix_of, AreWeights, IsWeights};
     ghost use Rattle.lop_model.specs.WeightsFault.{IsFault};
 
     /// The weights with these entries, row by row. One pass over the pairs, and no memory is taken.
@@ -109,6 +123,17 @@ impl Weights {
         ensures { result ≡ entry self.now a b }
     {
         entry_at(&self.entries, self.size as usize, a as usize, b as usize)
+    }
+
+    /// What an order gains by a before b in place of b before a: the entry of a and b less that of b and a.
+    pub fn margin(&self, a: u16, b: u16) -> i64
+        requires first { a < self.now.size }
+        requires second { b < self.now.size }
+        ensures value { result ≡ margin self.now a b }
+        ensures low { neg_ℤ (pos (10 ^ 18)) ≤ℤ result }
+        ensures high { result ≤ℤ pos (10 ^ 18) }
+    {
+        margin_at(&self.entries, self.size as usize, a as usize, b as usize)
     }
 
     /// The sum of the entries off the diagonal. O(n²).

@@ -1,0 +1,13 @@
+use Rattle.std.proofs.Common.{◌≡◌, ◌+◌, ◌*◌, ◌^◌, pos, ◌+ℤ◌, ◌≤ℤ◌, neg_ℤ}
+use Rattle.lop_model.specs.Order.{after_insertion}
+use Rattle.lop_model.specs.Matrix.{weight}
+use Rattle.lop_climb.specs.Insertion.{IsBestInsertion}
+use Rattle.lop_climb.proofs.ascent.best_earlier.Given as goal
+
+abbrev pub invariant-loop-k : goal.invariant-loop-k
+invariant-loop-k l = record {
+  gained : weight l.weights (after_insertion l.order l.from l.k) ≡ weight l.weights l.order +ℤ l.gain;
+  low : neg_ℤ (pos (2 * 10 ^ 18)) ≤ℤ l.gain;
+  high : l.gain ≤ℤ pos (2 * 10 ^ 18);
+  best : IsBestInsertion l.weights l.order l.from l.k (l.from + 1) l.best.to l.best.gain;
+}

@@ -1,0 +1,2 @@
+pub mod StartOrder
+pub mod Insertion

@@ -1,4 +1,3 @@
-pub mod StartLemmas
 pub mod Printed
 pub mod Written
 pub mod LineLength

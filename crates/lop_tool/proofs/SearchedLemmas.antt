@@ -11,11 +11,11 @@ use Rattle.lop_core.specs.Outcome.{IsFinished}
 use Rattle.lop_core.proofs.Alone.{core_outcome, spent_above}
 use Rattle.lop_core.proofs.CoreLemmas.{core_bound}
 use Rattle.lop_core.proofs.Monotone.{core_from_start, core_from_root}
-use Rattle.lop_tool.specs.StartOrder.{IsBeckerOrder}
+use Rattle.lop_climb.specs.StartOrder.{IsBeckerOrder}
 use Rattle.lop_tool.specs.Reply.{IsSearched}
 use Rattle.lop_tool.proofs.Promises.{in_64_bits}
 
-of_core : (core : CoreFields) → HasHistory core → IsFinished core.problem core.state → IsWeights core.problem.weights → ((t : List ℕ) → IsBeckerOrder core.problem.weights t → weight core.problem.weights t ≡ core.problem.start)
+of_core : (core : CoreFields) → HasHistory core → IsFinished core.problem core.state → IsWeights core.problem.weights → ((t : List ℕ) → IsBeckerOrder core.problem.weights t → weight core.problem.weights t ≤ℤ core.problem.start)
     → IsSearched core.problem.weights core.problem.budget core.order core.state.best (state_bound core.state) core.state.evaluated
 of_core core h f weights starts = record {
   weights = weights;
@@ -24,16 +24,16 @@ of_core core h f weights starts = record {
   value_is = sym h.weighs;
   bounds = record { each = core_bound core h };
   spent = spent_above core.problem core.state f;
-  from_start = λ t start. let rises = core_from_start core h in rw (starts t start) rises;
+  from_start = λ t start. let rises = core_from_start core h in let least = starts t start in omega (arith, ints);
   from_pairs = core_from_root core h;
 }
 
 pub searched_by : (C : Matrix) (s : List ℕ) (budget : ℕ) (core : CoreFields) → core.problem ≡ record { weights = C; start = weight C s; budget = budget } → HasHistory core → IsFinished core.problem core.state
-    → IsWeights C → ((t : List ℕ) → IsBeckerOrder C t → t ≡ s) → IsSearched C budget core.order core.state.best (state_bound core.state) core.state.evaluated
-searched_by C s budget core same h f weights only =
-    let from : (p : Problem) → core.problem ≡ p → IsWeights p.weights → ((t : List ℕ) → IsBeckerOrder p.weights t → weight p.weights t ≡ p.start) → IsSearched p.weights p.budget core.order core.state.best (state_bound core.state) core.state.evaluated =
-    λ p e. subst (λ (q : Problem). IsWeights q.weights → ((t : List ℕ) → IsBeckerOrder q.weights t → weight q.weights t ≡ q.start) → IsSearched q.weights q.budget core.order core.state.best (state_bound core.state) core.state.evaluated) e (of_core core h f) in
-    from (record { weights = C; start = weight C s; budget = budget }) same weights (λ t start. ap (weight C) (only t start))
+    → IsWeights C → ((t : List ℕ) → IsBeckerOrder C t → weight C t ≤ℤ weight C s) → IsSearched C budget core.order core.state.best (state_bound core.state) core.state.evaluated
+searched_by C s budget core same h f weights starts =
+    let from : (p : Problem) → core.problem ≡ p → IsWeights p.weights → ((t : List ℕ) → IsBeckerOrder p.weights t → weight p.weights t ≤ℤ p.start) → IsSearched p.weights p.budget core.order core.state.best (state_bound core.state) core.state.evaluated =
+    λ p e. subst (λ (q : Problem). IsWeights q.weights → ((t : List ℕ) → IsBeckerOrder q.weights t → weight q.weights t ≤ℤ q.start) → IsSearched q.weights q.budget core.order core.state.best (state_bound core.state) core.state.evaluated) e (of_core core h f) in
+    from (record { weights = C; start = weight C s; budget = budget }) same weights starts
 
 -- both numbers are at most 10^18 in absolute value
 pub record HasSmallNumbers (v b : ℤ) : Type 0 where

@@ -13,7 +13,7 @@ use Rattle.lop_tool.specs.declared.reply.Refusal.{Refusal}
 use Rattle.lop_tool.specs.declared.reply.Refusal.TheVariants.{Words, Input, LongCertificate}
 use Rattle.lop_tool.specs.declared.reply.Reply.{Reply}
 use Rattle.lop_tool.specs.declared.reply.Reply.TheVariants.{Refused, Solved, Checked}
-use Rattle.lop_tool.specs.StartOrder.{IsBeckerOrder}
+use Rattle.lop_climb.specs.StartOrder.{IsBeckerOrder}
 use Rattle.lop_tool.specs.AnswerText.{is_optimal, solve_text, accepted_text, rejected_line}
 
 abbrev pub input_refusal_word : InputRefusal → List ℕ

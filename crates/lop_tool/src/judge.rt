@@ -3,11 +3,11 @@ ghost use Rattle.std.specs.Prelude.{◌≡◌, ◌<◌, length, IfOk};
 ghost use Rattle.lop_model.specs.Fixings.{IsBranchingPath, IsClosure};
 ghost use Rattle.lop_leaf.specs.Sound.{IsSoundTicket, IsSoundResult};
 
-use crate::bound::value;
 use crate::extension::extend;
 use lop_fix::Fixings;
 use lop_leaf::{Evaluated, LeafRecord, PairRoom, Ticket, upper};
 use lop_model::{Order, Pair, Weights};
+use lop_value::value;
 use std::alloc::{AllocError, Global};
 use std::marker::Model;
 

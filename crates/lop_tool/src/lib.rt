@@ -13,7 +13,6 @@ mod reply;
 mod report;
 mod search;
 mod solve;
-mod start;
 mod top;
 mod words;
 

@@ -1,26 +1,31 @@
 // What `solve` replies.
-ghost use Rattle.std.specs.Prelude.{◌≡◌, ◌≤◌, length, IfOk, IfErr};
+ghost use Rattle.std.specs.Prelude.{◌≡◌, ℕ, ◌≤◌, List, length, ◌≤ℤ◌, IfOk, IfErr, if◌then◌else◌};
+ghost use Rattle.lop_model.specs.Order.{IsOrder};
+ghost use Rattle.lop_model.specs.Matrix.{weight};
+ghost use Rattle.lop_climb.specs.StartOrder.{IsBeckerOrder};
 ghost use Rattle.lop_core.specs.Tree.{out_count};
 ghost use Rattle.lop_core.specs.Machine.{state_bound};
 ghost use Rattle.lop_core.specs.Core.{HasHistory};
 ghost use Rattle.lop_core.specs.Outcome.{IsFinished};
 ghost use Rattle.lop_desk.specs.Whole.{OnlyOpens};
+ghost use Rattle.lop_tool.specs.AnswerText.{is_optimal};
 ghost use Rattle.lop_tool.specs.Reply.{IsSolution, IsSearched, IsPrintable};
 ghost use Rattle.lop_tool.specs.Run.{AnswersSolve, IsSolved};
 ghost use Rattle.lop_tool.specs.Stops.{InputCause};
 ghost use Rattle.lop_tool.specs.Keeping.{CanBeKept, IsCertifiable};
 ghost use Rattle.lop_tool.specs.declared.reply.Reply.TheVariants as Reply;
 
-use crate::bound::{pair_bound_of, value};
+use crate::bound::pair_bound_of;
 use crate::input::read_input;
 use crate::reply::{Refusal, Reply, Solution, Stop};
 use crate::report::Answer;
 use crate::search::Worker;
-use crate::start::start_order;
 use crate::words::NameWord;
+use lop_climb::{ClimbRoom, climb, start_order};
 use lop_core::Core;
 use lop_desk::Desk;
 use lop_model::{Order, Weights};
+use lop_value::value;
 use std::alloc::{AllocError, Global};
 
 /// The reply to `solve` of the named file, with so many nodes to evaluate at most, and with the name of a certificate.
@@ -69,7 +74,7 @@ fn solution(
     }
 }
 
-// What a search finds that begins with the start order and evaluates so many nodes at most.
+// What a search finds that begins with a climb from the start order and evaluates so many nodes at most.
 fn searched(alloc: Global, weights: Weights, nodes: u32) -> Result<Solution, AllocError>
     requires positive { 1 ≤ nodes }
     requires within_limit { nodes ≤ 1000000 }
@@ -79,8 +84,10 @@ fn searched(alloc: Global, weights: Weights, nodes: u32) -> Result<Solution, All
     ensures certifiable { IfOk result IsCertifiable }
 {
     let n = weights.n();
-    let mut order = start_order(alloc, &weights)?;
-    let mut core = Core::prepare(alloc, &weights, &order, nodes)?;
+    let mut order = Order::first(alloc, n)?;
+    let mut room = ClimbRoom::new(alloc, n)?;
+    first_order(&weights, &mut room);
+    let mut core = Core::prepare(alloc, &weights, room.order(), nodes)?;
     let mut worker = Worker::new(alloc, n)?;
     let answer = finish(&mut worker, &mut core, &mut order);
     Ok(Solution {
@@ -88,6 +95,16 @@ fn searched(alloc: Global, weights: Weights, nodes: u32) -> Result<Solution, All
         order,
         answer,
     })
+}
+
+// The start order, and from there a climb.
+fn first_order(weights: &Weights, room: &mut ClimbRoom)
+    requires { length room.old ≡ weights.now.size }
+    ensures order { IsOrder weights.now.size room.new }
+    ensures from_start { (t : List ℕ) → IsBeckerOrder weights.now t → weight weights.now t ≤ℤ weight weights.now room.new }
+{
+    start_order(weights, room);
+    let _ = climb(weights, room);
 }
 
 // Searches to the end: the numbers that the core has then, and its order.
@@ -120,11 +137,13 @@ fn bounded(alloc: Global, weights: Weights) -> Result<Solution, AllocError>
     ensures printable { IfOk result (λ x. IsPrintable (Reply.Solved x)) }
     ensures certifiable { IfOk result IsCertifiable }
 {
-    let _n = weights.n();
-    let order = start_order(alloc, &weights)?;
+    let n = weights.n();
+    let mut order = Order::first(alloc, n)?;
+    let mut room = ClimbRoom::new(alloc, n)?;
+    put_start_order(&weights, &mut room, &mut order);
     let value = value(&weights, &order);
     let bound = pair_bound_of(&weights);
-    let nodes = if value == bound { 0 } else { 1 };
+    let nodes = nodes_bounded(value, bound);
     Ok(Solution {
         weights,
         order,
@@ -134,4 +153,21 @@ fn bounded(alloc: Global, weights: Weights) -> Result<Solution, AllocError>
             nodes,
         },
     })
+}
+
+// The root counts as evaluated where the numbers differ.
+fn nodes_bounded(value: i128, bound: i128) -> u32
+    ensures { result ≡ (if is_optimal value bound then 0 else 1) }
+{
+    if value == bound { 0 } else { 1 }
+}
+
+// Leaves the start order in both.
+fn put_start_order(weights: &Weights, room: &mut ClimbRoom, order: &mut Order)
+    requires room { length room.old ≡ weights.now.size }
+    requires order { length order.old ≡ weights.now.size }
+    ensures { IsBeckerOrder weights.now order.new }
+{
+    start_order(weights, room);
+    order.copy_from(room.order());
 }

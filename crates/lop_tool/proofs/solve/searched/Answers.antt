@@ -1,18 +1,19 @@
-use Rattle.std.proofs.Common.{◌∙◌, ap, arith}
+use Rattle.std.proofs.Common.{◌≡◌, ◌∙◌, ℕ, List, ap, arith}
 use Rattle.std.proofs.lemmas.Int.{ints}
+use Rattle.lop_model.specs.Matrix.{weight}
 use Rattle.lop_core.specs.Core.{CoreFields}
 use Rattle.lop_tool.specs.Reply.{IsSearched}
 use Rattle.lop_tool.proofs.SearchedLemmas.{searched_by, searched_small, HasSmallNumbers}
 use Rattle.lop_tool.proofs.solve.searched.Goals as goal
 
-found : (c : goal.After-drop-core-inside-6) → IsSearched c.args.weights c.args.nodes c.finish-answer.new.order c.finish-answer.result.value c.finish-answer.result.bound c.finish-answer.result.nodes
+found : (c : goal.After-drop-room-inside-3) → IsSearched c.args.weights c.args.nodes c.finish-answer.new.order c.finish-answer.result.value c.finish-answer.result.bound c.finish-answer.result.nodes
 found c =
     let f = c.finish-answer in
-    let problem = f.ensures.same_problem ∙ ap (λ (x : CoreFields). x.problem) c.in_ok-core.ensures in
+    let problem = f.ensures.same_problem ∙ (ap (λ (x : CoreFields). x.problem) c.in_ok-core.ensures ∙ ap (λ (s : List ℕ). record { weights = c.args.weights; start = weight c.args.weights s; budget = c.args.nodes }) c.order-2.ensures) in
     rw (f.ensures.order, f.ensures.value, f.ensures.bound, f.ensures.nodes)
-    (searched_by c.args.weights c.in_ok-order.order c.args.nodes f.new.core problem f.ensures.history f.ensures.finished c.n-n.ensures.weights c.in_ok-order.ensures.only)
+    (searched_by c.args.weights c.first_order.new.room c.args.nodes f.new.core problem f.ensures.history f.ensures.finished c.n-n.ensures.weights c.first_order.ensures.from_start)
 
-small : (c : goal.After-drop-core-inside-6) → HasSmallNumbers c.finish-answer.result.value c.finish-answer.result.bound
+small : (c : goal.After-drop-room-inside-3) → HasSmallNumbers c.finish-answer.result.value c.finish-answer.result.bound
 small c = searched_small c.args.weights c.args.nodes c.finish-answer.new.order c.finish-answer.result.value c.finish-answer.result.bound c.finish-answer.result.nodes (found c)
 
 pub returns-clause-solution : goal.returns-clause-solution

@@ -7,6 +7,7 @@ mod certificate;
 mod checking;
 mod deliver;
 mod input;
+mod refused;
 mod reply;
 mod report;
 mod solve;

@@ -1,39 +1,43 @@
 -- Entries, word by word.
-use Rattle.std.proofs.Common.{◌≡◌, ℕ, ◌+◌, ◌*◌, ◌<◌, ◌≤◌, Bool, true, false, ◌&&◌, ◌==◌, cond, List, [], ◌∷◌, ◌++◌, length, take, drop, map, get_or, ℤ, Err, refl, sym, ◌∙◌, ap, arith}
-use Rattle.std.specs.List.{list_all}
-use Rattle.std.proofs.lemmas.List.{drop_more, take_more, take_all, length-drop, length_push, map-append}
-use Rattle.std.proofs.lemmas.List.Folds.{list_all_more, list_all_at}
+use Rattle.std.proofs.Common.{◌≡◌, ℕ, ◌+◌, ◌-◌, ◌*◌, ◌<◌, ◌≤◌, Bool, true, false, cond, nat_lt, List, [], ◌∷◌, ◌++◌, length, take, drop, map, get_or, ℤ, Result, Err, refl, sym, ◌∙◌, ap, subst, inl, inr, arith}
+use Rattle.std.proofs.lemmas.List.{drop_more, take_more, length-drop, length-take, length_push, map-append, get_or-take}
+use Rattle.std.proofs.lemmas.List.Sums.{prefix_len_is}
+use Rattle.std.proofs.lemmas.Bool.{cases_lt}
 use Rattle.std.proofs.lemmas.Bool.Decides.{nat_tests}
 use Rattle.lop_desk.specs.Number.{whole_value}
 use Rattle.lop_lolib.specs.Words.{is_number_word}
-use Rattle.lop_lolib.specs.Reading.{rows_reading, entries_reading}
-use Rattle.lop_lolib.specs.declared.lolib.LolibRefusal.TheVariants.{Other}
+use Rattle.lop_lolib.specs.Reading.{rows_reading, entries_reading, entry_refusal, entry_count, IsRefusal}
+use Rattle.lop_lolib.specs.declared.lolib.LolibFile.{LolibFile}
+use Rattle.lop_lolib.specs.declared.refusal.LolibRefusal.{LolibRefusal}
+use Rattle.lop_lolib.specs.declared.refusal.LolibRefusal.TheVariants.{Empty, BadSize, SizeRange, BadEntry, TooWide, Short, TooHeavy, Memory}
 
 -- the entries are the numbers of the first words, and the other words are left
 pub record AreFirstNumbers (words others : List (List ℕ)) (entries : List ℤ) : Type 0 where
   pub present : length entries ≤ length words
-  pub numbers : list_all is_number_word (take (length entries) words) ≡ true
+  pub numbers : (k : ℕ) → k < length entries → is_number_word (get_or words k []) ≡ true
   pub values : entries ≡ map whole_value (take (length entries) words)
   pub left : others ≡ drop (length entries) words
 
-abbrev are_rows : ℕ → List (List ℕ) → Bool
-are_rows n words = list_all is_number_word words && length words == n * n
-
-rows_reading-refused : (n : ℕ) (words : List (List ℕ)) → are_rows n words ≡ false → rows_reading n words ≡ Err Other
-rows_reading-refused n words e = ap (λ (t : Bool). cond t (entries_reading n (map whole_value words)) (Err Other)) e
-
--- another number of words than n * n
-rows_reading-length : (n : ℕ) (words : List (List ℕ)) → (length words ≡ n * n → ⊥) → rows_reading n words ≡ Err Other
-rows_reading-length n words other =
-    let test : (length words == n * n) ≡ false = grind (arith, nat_tests) in
-    rows_reading-refused n words (ap (λ (t : Bool). list_all is_number_word words && t) test ∙ and_false (list_all is_number_word words))
-  where
-    and_false : (b : Bool) → (b && false) ≡ false
-    and_false true = refl
-    and_false false = refl
-
 pub first_numbers-none : (words : List (List ℕ)) → AreFirstNumbers words words []
-first_numbers-none words = record { present = omega arith; numbers = refl; values = refl; left = refl }
+first_numbers-none words = record { present = omega arith; numbers = λ k below. absurd (omega arith); values = refl; left = refl }
+
+-- the first word that is no entry, or none of the words for n * n entries
+entry_count_is : (n : ℕ) (words : List (List ℕ)) (i : ℕ) → i ≤ n * n → i ≤ length words → ((k : ℕ) → k < i → is_number_word (get_or words k []) ≡ true) → (i < n * n → i < length words → is_number_word (get_or words i []) ≡ false) → entry_count n words ≡ i
+entry_count_is n words i within present numbers stops =
+    let front = take (n * n) words in
+    let same : (k : ℕ) → k < n * n → get_or front k [] ≡ get_or words k [] = λ k below. get_or-take (n * n) words k [] below in
+    prefix_len_is is_number_word front i [] (omega (arith, length-take (n * n) words))
+    (λ k below. ap is_number_word (same k (omega arith)) ∙ numbers k below)
+    (λ more. ap is_number_word (same i (omega (arith, length-take (n * n) words))) ∙ stops (omega (arith, length-take (n * n) words)) (omega (arith, length-take (n * n) words)))
+
+abbrev rows_with : ℕ → List (List ℕ) → Bool → Bool → Result LolibFile LolibRefusal
+rows_with n words bad short = cond bad (Err (entry_refusal (entry_count n words) (get_or words (entry_count n words) []))) (cond short (Err (Short (length words))) (entries_reading n (map whole_value (take (n * n) words)) (length words - n * n)))
+
+is_less : (a b : ℕ) → a < b → nat_lt a b ≡ true
+is_less a b less = grind (arith, nat_tests)
+
+is_not_less : (a b : ℕ) → b ≤ a → nat_lt a b ≡ false
+is_not_less a b other = grind (arith, nat_tests)
 
 module _ (words left others : List (List ℕ)) (entries : List ℤ) (word : List ℕ) (so_far : AreFirstNumbers words left entries) (next : left ≡ word ∷ others) where
   left_is : word ∷ others ≡ drop (length entries) words
@@ -53,36 +57,54 @@ module _ (words left others : List (List ℕ)) (entries : List ℤ) (word : List
       let took = take_more words n [] more in
       record {
         present = omega (arith, more);
-        numbers = rw (long, list_all_more is_number_word words n [] more, so_far.numbers, here.0) number;
+        numbers = λ k below. elim (cases_lt k n) [ inl before ↦ so_far.numbers k before | inr last ↦ let P : ℕ → Type 0 = λ i. is_number_word (get_or words i []) ≡ true in subst P (omega arith) (ap is_number_word here.0 ∙ number) ];
         values = rw long (is ∙ ap (λ (l : List ℤ). l ++ value ∷ []) so_far.values ∙ ap (λ (v : ℤ). map whole_value (take n words) ++ v ∷ []) (value_is ∙ ap whole_value (sym here.0)) ∙ sym (ap (map whole_value) took ∙ map-append whole_value (take n words) (get_or words n [] ∷ [])));
         left = rw long (sym here.1);
       }
 
-  -- a word behind the last entry
-  pub rows_reading-tail : (n : ℕ) → length entries ≡ n * n → rows_reading n words ≡ Err Other
-  rows_reading-tail n full = rows_reading-length n words (λ (e : length words ≡ n * n). absurd (omega (arith, more)))
+  -- a word that is no entry
+  pub rows_reading-bad : (n : ℕ) → length entries < n * n → is_number_word word ≡ false → rows_reading n words ≡ Err (entry_refusal (length entries) word)
+  rows_reading-bad n within bad =
+      let i = length entries in
+      let count : entry_count n words ≡ i = entry_count_is n words i (omega arith) so_far.present so_far.numbers (λ _ _. ap is_number_word here.0 ∙ bad) in
+      let test : nat_lt (entry_count n words) (length (take (n * n) words)) ≡ true = is_less _ _ (omega (arith, count, more, length-take (n * n) words)) in
+      ap (λ (t : Bool). rows_with n words t (nat_lt (length words) (n * n))) test
+      ∙ ap (λ (k : ℕ). Err (entry_refusal k (get_or words k []))) count
+      ∙ ap (λ (w : List ℕ). Err (entry_refusal i w)) here.0
 
-  -- a word that is no number
-  pub rows_reading-no_number : (n : ℕ) → is_number_word word ≡ false → rows_reading n words ≡ Err Other
-  rows_reading-no_number n no_number =
-      let bad : is_number_word (get_or words (length entries) []) ≡ false = rw here.0 no_number in
-      rows_reading-refused n words (ap (λ (t : Bool). t && length words == n * n) (list_all_at is_number_word words (length entries) [] more bad))
+-- a refusal that is the text's
+pub IsRefusal-from : (reading : Result LolibFile LolibRefusal) (refusal : LolibRefusal) → reading ≡ Err refusal → IsRefusal reading refusal
+IsRefusal-from reading Empty e = e
+IsRefusal-from reading (BadSize position) e = e
+IsRefusal-from reading (SizeRange n) e = e
+IsRefusal-from reading (BadEntry index) e = e
+IsRefusal-from reading (TooWide index) e = e
+IsRefusal-from reading (Short count) e = e
+IsRefusal-from reading (TooHeavy sum) e = e
+IsRefusal-from reading Memory e = tt
 
-module _ (words left : List (List ℕ)) (entries : List ℤ) (so_far : AreFirstNumbers words left entries) (none : left ≡ []) where
-  all_taken : length entries ≡ length words
-  all_taken = omega (arith, so_far.present, ap length none, ap length so_far.left, length-drop (length entries) words)
+module _ (words left : List (List ℕ)) (entries : List ℤ) (so_far : AreFirstNumbers words left entries) where
+  pub first_numbers-left : length left ≤ length words
+  first_numbers-left = omega (arith, ap length so_far.left, length-drop (length entries) words)
 
-  -- too few words
-  pub rows_reading-short : (n : ℕ) → length entries < n * n → rows_reading n words ≡ Err Other
-  rows_reading-short n short = rows_reading-length n words (λ (e : length words ≡ n * n). absurd (omega (arith, all_taken)))
+  -- all words are entries, and too few
+  pub rows_reading-short : (n : ℕ) → left ≡ [] → length entries < n * n → rows_reading n words ≡ Err (Short (length entries))
+  rows_reading-short n none short =
+      let all : length entries ≡ length words = omega (arith, so_far.present, ap length none, ap length so_far.left, length-drop (length entries) words) in
+      let count : entry_count n words ≡ length entries = entry_count_is n words (length entries) (omega arith) so_far.present so_far.numbers (λ _ other. absurd (omega arith)) in
+      let good : nat_lt (entry_count n words) (length (take (n * n) words)) ≡ false = is_not_less _ _ (omega (arith, count, length-take (n * n) words)) in
+      let few : nat_lt (length words) (n * n) ≡ true = is_less _ _ (omega arith) in
+      ap (λ (t : Bool). rows_with n words t (nat_lt (length words) (n * n))) good ∙ ap (λ (t : Bool). rows_with n words false t) few ∙ ap (λ (k : ℕ). Err (Short k)) (sym all)
 
   -- an entry for each row and column
-  pub rows_reading-all : (n : ℕ) → length entries ≡ n * n → rows_reading n words ≡ entries_reading n entries
+  pub rows_reading-all : (n : ℕ) → length entries ≡ n * n → rows_reading n words ≡ entries_reading n entries (length left)
   rows_reading-all n full =
-      let took : take (length entries) words ≡ words = take_all (length entries) words (omega (arith, all_taken)) in
-      let numbers : list_all is_number_word words ≡ true = rw took at so_far.numbers in
-      let values : entries ≡ map whole_value words = so_far.values ∙ ap (map whole_value) took in
-      let long : length words ≡ n * n = sym all_taken ∙ full in
-      let test : (length words == n * n) ≡ true = grind (arith, nat_tests) in
-      let rows : are_rows n words ≡ true = ap (λ (t : Bool). t && length words == n * n) numbers ∙ test in
-      ap (λ (t : Bool). cond t (entries_reading n (map whole_value words)) (Err Other)) rows ∙ ap (λ (l : List ℤ). entries_reading n l) (sym values)
+      let count : entry_count n words ≡ length entries = entry_count_is n words (length entries) (omega arith) so_far.present so_far.numbers (λ other _. absurd (omega arith)) in
+      let good : nat_lt (entry_count n words) (length (take (n * n) words)) ≡ false = is_not_less _ _ (omega (arith, count, length-take (n * n) words)) in
+      let enough : nat_lt (length words) (n * n) ≡ false = is_not_less _ _ (omega (arith, so_far.present)) in
+      let values : map whole_value (take (n * n) words) ≡ entries = sym (so_far.values ∙ ap (λ (k : ℕ). map whole_value (take k words)) full) in
+      let tail : length words - n * n ≡ length left = omega (arith, ap length so_far.left, length-drop (length entries) words) in
+      ap (λ (t : Bool). rows_with n words t (nat_lt (length words) (n * n))) good
+      ∙ ap (λ (t : Bool). rows_with n words false t) enough
+      ∙ ap (λ (l : List ℤ). entries_reading n l (length words - n * n)) values
+      ∙ ap (λ (k : ℕ). entries_reading n entries k) tail

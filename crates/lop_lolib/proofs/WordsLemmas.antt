@@ -2,8 +2,8 @@
 use Rattle.std.proofs.Common.{◌≡◌, ℕ, ◌+◌, ◌-◌, ◌<◌, ◌≤◌, Bool, true, false, not, cond, List, [], ◌∷◌, length, take, drop, get_or, nat_lt, filter, inl, inr, refl, sym, ◌∙◌, ap, subst, arith}
 use Rattle.std.specs.List.{slice_split, position_or_len, prefix_len, onto_first, All}
 use Rattle.std.proofs.lemmas.List.{drop_more, take_rest, take_all, drop_all, length-take-le}
-use Rattle.std.proofs.lemmas.List.Sums.{fails_before_first, passes_at_first, prefix_len-le-length, prefix_len_stops}
-use Rattle.std.proofs.lemmas.List.Splits.{slice_split_first, slice_split_none}
+use Rattle.std.proofs.lemmas.List.Sums.{length-filter, count_by-le-length, fails_before_first, passes_at_first, prefix_len-le-length, prefix_len_stops}
+use Rattle.std.proofs.lemmas.List.Splits.{length-slice_split, slice_split_first, slice_split_none}
 use Rattle.std.proofs.lemmas.Bool.{cases_lt}
 use Rattle.std.proofs.lemmas.Bool.Decides.{nat_tests}
 use Rattle.std.proofs.lemmas.Grind.{common_steps}
@@ -96,3 +96,9 @@ module _ (bytes : List ℕ) (blank n : ℕ) (blank_is : blank ≡ prefix_len is_
             let empty : rest ≡ [] = take_rest bytes blank ∙ drop_all blank bytes all in
             (sym skipped ∙ ap words_of empty, ap words_of (take_rest rest n ∙ ap (λ (l : List ℕ). drop n l) empty ∙ drop_all n [] (omega arith)))
       ]
+
+-- there are at most as many words as bytes, and one more
+pub words_of-at_most : (bytes : List ℕ) → length (words_of bytes) ≤ length bytes + 1
+words_of-at_most bytes =
+    let parts = slice_split is_separator bytes in
+    omega (arith, length-filter is_nonempty parts, count_by-le-length is_nonempty parts, length-slice_split is_separator bytes, count_by-le-length is_separator bytes)

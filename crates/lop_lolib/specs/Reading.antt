@@ -1,36 +1,55 @@
 -- What a LOLIB text means.
-use Rattle.std.specs.Prelude.{◌≡◌, ℕ, ◌*◌, ◌^◌, ◌==◌, ◌||◌, ◌&&◌, List, [], ◌∷◌, length, map, ℤ, pos, int_lt, nat_abs, if◌then◌else◌, Result, Ok, Err}
-use Rattle.std.specs.List.{list_all}
+use Rattle.std.specs.Prelude.{◌≡◌, ℕ, ◌+◌, ◌-◌, ◌*◌, ◌^◌, ◌||◌, nat_lt, List, [], ◌∷◌, length, map, take, drop, slice_index_or, ℤ, pos, int_lt, nat_abs, if◌then◌else◌, Result, Ok, Err}
+use Rattle.std.specs.List.{prefix_len}
 use Rattle.lop_desk.specs.Number.{whole_value}
 use Rattle.lop_model.specs.Matrix.{matrix_of, absolute_total}
-use Rattle.lop_lolib.specs.Words.{words_of, is_number_word}
+use Rattle.lop_lolib.specs.Words.{is_separator, words_of, is_whole_word, is_number_word}
+use Rattle.lop_lolib.specs.Title.{title_of, title_len}
 use Rattle.lop_lolib.specs.declared.lolib.LolibFile.{LolibFile}
-use Rattle.lop_lolib.specs.declared.lolib.LolibRefusal.{LolibRefusal}
-use Rattle.lop_lolib.specs.declared.lolib.LolibRefusal.TheVariants.{Other, Memory}
+use Rattle.lop_lolib.specs.declared.refusal.LolibRefusal.{LolibRefusal}
+use Rattle.lop_lolib.specs.declared.refusal.LolibRefusal.TheVariants.{Empty, BadSize, SizeRange, BadEntry, TooWide, Short, TooHeavy, Memory}
 
--- n rows of n entries, whose absolute values off the diagonal sum to at most 10^18
-abbrev pub entries_reading : ℕ → List ℤ → Result LolibFile LolibRefusal
-entries_reading n entries =
-    if int_lt (pos (10 ^ 18)) (absolute_total (matrix_of n entries)) then Err Other else Ok (record { weights = matrix_of n entries; title = []; tail_words = 0 })
+-- n rows of n entries, whose absolute values off the diagonal sum to at most 10^18, and the number of words behind them
+abbrev pub entries_reading : ℕ → List ℤ → ℕ → Result LolibFile LolibRefusal
+entries_reading n entries tail =
+    if int_lt (pos (10 ^ 18)) (absolute_total (matrix_of n entries)) then Err (TooHeavy (absolute_total (matrix_of n entries))) else Ok (record { weights = matrix_of n entries; title = []; tail_words = tail })
 
--- the words behind that for n are n * n numbers, row by row
+-- why a word is no entry
+abbrev pub entry_refusal : ℕ → List ℕ → LolibRefusal
+entry_refusal index word = if is_whole_word word then TooWide index else BadEntry index
+
+-- how many of the words for n * n entries are entries, up to the first that is none
+abbrev pub entry_count : ℕ → List (List ℕ) → ℕ
+entry_count n words = prefix_len is_number_word (take (n * n) words)
+
+-- the words behind that for n are n * n numbers, row by row, and others
 abbrev pub rows_reading : ℕ → List (List ℕ) → Result LolibFile LolibRefusal
 rows_reading n words =
-    if list_all is_number_word words && length words == n * n then entries_reading n (map whole_value words) else Err Other
+    if nat_lt (entry_count n words) (length (take (n * n) words)) then Err (entry_refusal (entry_count n words) (slice_index_or words (entry_count n words) []))
+    else (if nat_lt (length words) (n * n) then Err (Short (length words)) else entries_reading n (map whole_value (take (n * n) words)) (length words - n * n))
 
 -- n is from 1 to 512
 abbrev pub size_reading : ℤ → List (List ℕ) → Result LolibFile LolibRefusal
 size_reading n words =
-    if int_lt n (pos 1) || int_lt (pos 512) n then Err Other else rows_reading (nat_abs n) words
+    if int_lt n (pos 1) || int_lt (pos 512) n then Err (SizeRange n) else rows_reading (nat_abs n) words
 
--- the first word is a number n
-abbrev pub words_reading : List (List ℕ) → Result LolibFile LolibRefusal
-words_reading [] = Err Other
-words_reading (word ∷ words) = if is_number_word word then size_reading (whole_value word) words else Err Other
+-- the first word is a number n; it begins at this position
+abbrev pub words_reading : ℕ → List (List ℕ) → Result LolibFile LolibRefusal
+words_reading position [] = Err Empty
+words_reading position (word ∷ words) = if is_number_word word then size_reading (whole_value word) words else Err (BadSize position)
+
+-- what follows a title
+abbrev pub titled : List ℕ → Result LolibFile LolibRefusal → Result LolibFile LolibRefusal
+titled title (Ok file) = Ok (record file { title = title })
+titled title (Err refusal) = Err refusal
+
+-- the bytes behind the title's line, of which this many stand before them
+abbrev pub body_reading : ℕ → List ℕ → Result LolibFile LolibRefusal
+body_reading before body = words_reading (before + prefix_len is_separator body) (words_of body)
 
 -- what a text holds, or why it is refused
 abbrev pub lolib_reading : List ℕ → Result LolibFile LolibRefusal
-lolib_reading bytes = words_reading (words_of bytes)
+lolib_reading bytes = titled (title_of bytes) (body_reading (title_len bytes) (drop (title_len bytes) bytes))
 
 -- Want of memory may come with any text. Every other refusal is the text's.
 abbrev pub IsRefusal : Result LolibFile LolibRefusal → LolibRefusal → Type 0

@@ -1,11 +1,16 @@
 //! LOLIB files: a linear ordering problem as a text.
 #![tactic(auto)]
 
+mod heading;
 mod lolib;
+mod order;
+mod refusal;
 #[cfg(test)]
 mod tests;
 mod title;
 mod words;
 
-pub use lolib::{LolibFile, LolibRefusal, read_lolib};
+pub use lolib::{LolibFile, read_lolib};
+pub use order::{OrderRefusal, read_order};
+pub use refusal::LolibRefusal;
 pub use title::Title;

@@ -1,7 +1,10 @@
 // Texts that are read, and texts that are refused.
-use crate::{LolibRefusal, read_lolib};
+use crate::LolibRefusal::{BadEntry, BadSize, Empty, Short, SizeRange, TooHeavy, TooWide};
+use crate::OrderRefusal::{BadWord, Length, OutOfRange, Repeated};
+use crate::{LolibRefusal, OrderRefusal, read_lolib, read_order};
 use lop_model::Weights;
 use std::alloc::{AllocError, Global};
+use std::process::Abort;
 use std::test::Fail;
 
 // The entries, row by row.
@@ -15,67 +18,156 @@ fn entries_of(alloc: Global, weights: &Weights) -> Result<Vec<i64>, AllocError> 
     Ok(entries)
 }
 
+fn reads_whole(
+    rt: &impl Abort,
+    alloc: Global,
+    text: &str,
+    entries: &[i64],
+    title: &str,
+    tail_words: u64,
+) -> Result<(), Fail> {
+    let file = read_lolib(alloc, text.as_bytes())?;
+    let found = entries_of(alloc, &file.weights)?;
+    assert_eq!(rt; found.as_slice(), entries, "at {text:?}");
+    assert_eq!(rt; file.title.bytes(), title.as_bytes(), "at {text:?}");
+    assert_eq!(rt; file.tail_words, tail_words, "at {text:?}");
+    Ok(())
+}
+
+// The same, without a title and tail words.
+fn reads(rt: &impl Abort, alloc: Global, text: &str, entries: &[i64]) -> Result<(), Fail> {
+    reads_whole(rt, alloc, text, entries, "", 0)
+}
+
+fn refuses(rt: &impl Abort, alloc: Global, text: &str, expected: LolibRefusal) {
+    match read_lolib(alloc, text.as_bytes()) {
+        Ok(_) => assert!(rt; false, "read {text:?}"),
+        Err(refusal) => assert_eq!(rt; refusal, expected, "at {text:?}"),
+    }
+}
+
 #[test]
 fn texts_read(rt: HostRuntime) -> Result<(), Fail> {
-    let three_sectors: &[i64] = &[0, 5, 1, 2, 0, 4, 3, 1, 0];
-    let texts: [(&str, &[i64]); 11] = [
-        ("3\n0 5 1\n2 0 4\n3 1 0\n", three_sectors),
-        ("3 0 5 1 2 0 4 3 1 0", three_sectors),
-        ("\n\n3\n\n0 5\n1 2\n0 4\n3 1\n0\n\n", three_sectors),
-        ("1\n0\n", &[0]),
-        ("2\n0 -5\n-3 0\n", &[0, -5, -3, 0]),
-        ("2\r\n0 1\r\n2 0\r\n", &[0, 1, 2, 0]),
-        ("\t2\t0\t1\r2 \t 0", &[0, 1, 2, 0]),
-        ("+002\n000 +1\n0002 -00\n", &[0, 1, 2, 0]),
-        ("1\n1000000000000000000\n", &[1_000_000_000_000_000_000]),
-        ("1\n-1000000000000000000\n", &[-1_000_000_000_000_000_000]),
-        (
-            "2\n0 500000000000000000\n-500000000000000000 0\n",
-            &[0, 500_000_000_000_000_000, -500_000_000_000_000_000, 0],
-        ),
-    ];
-    for (text, entries) in texts {
-        let file = read_lolib(rt.alloc(), text.as_bytes())?;
-        let found = entries_of(rt.alloc(), &file.weights)?;
-        assert_eq!(rt; found.as_slice(), entries, "at {text:?}");
-        assert!(rt; file.title.bytes().is_empty());
-        assert_eq!(rt; file.tail_words, 0);
-    }
+    let alloc = rt.alloc();
+    let sectors: &[i64] = &[0, 5, 1, 2, 0, 4, 3, 1, 0];
+    let pair: &[i64] = &[0, 1, 2, 0];
+    reads(&rt, alloc, "3\n0 5 1\n2 0 4\n3 1 0\n", sectors)?;
+    reads(&rt, alloc, "3 0 5 1 2 0 4 3 1 0", sectors)?;
+    reads(&rt, alloc, "\n\n3\n\n0 5\n1 2\n0 4\n3 1\n0\n\n", sectors)?;
+    reads(&rt, alloc, "2\r\n0 1\r\n2 0\r\n", pair)?;
+    reads(&rt, alloc, "\t2\t0\t1\r2 \t 0", pair)?;
+    reads(&rt, alloc, "+002\n000 +1\n0002 -00\n", pair)?;
+    let wide = 1_000_000_000_000_000_000;
+    reads(&rt, alloc, "1\n-1000000000000000000", &[-wide])?;
+    let text = "2\n0 500000000000000000 -500000000000000000 0";
+    reads(&rt, alloc, text, &[0, wide / 2, -wide / 2, 0])?;
+    Ok(())
+}
+
+#[test]
+fn titles_and_tails_read(rt: HostRuntime) -> Result<(), Fail> {
+    let alloc = rt.alloc();
+    let sectors: &[i64] = &[0, 5, 1, 2, 0, 4, 3, 1, 0];
+    let titled = "Belgium 1975\n3\n0 5 1\n2 0 4\n3 1 0\n";
+    reads_whole(&rt, alloc, titled, sectors, "Belgium 1975", 0)?;
+    let tailed = "3\n0 5 1\n2 0 4\n3 1 0\nx y\n";
+    reads_whole(&rt, alloc, tailed, sectors, "", 2)?;
+    reads_whole(&rt, alloc, "1\n0 x", &[0], "", 1)?;
+    reads_whole(
+        &rt,
+        alloc,
+        "\n \t x  9\t \r\n1 0 2\n3 \x0c",
+        &[0],
+        "x  9",
+        3,
+    )?;
+    reads_whole(&rt, alloc, "1.5\n1\n0", &[0], "1.5", 0)?;
+    reads_whole(&rt, alloc, "1 -\n1\n0", &[0], "1 -", 0)?;
+    reads_whole(&rt, alloc, "\u{e9}\x00\n1\n0", &[0], "\u{e9}\x00", 0)?;
     Ok(())
 }
 
 #[test]
 fn texts_refused(rt: HostRuntime) {
-    let texts = [
-        "",
-        " \r\n\t\n",
-        "2\n0 1\n1\n",
-        "3\n0 5 1\n2 0 4\n3 1 0\nx y\n",
-        "3\n0 5 1\n2 0 4\n3 1 0\n7\n",
-        "Belgium 1975\n3\n0 5 1\n2 0 4\n3 1 0\n",
-        "+\n0\n",
-        "1\n-\n",
-        "1\n--1\n",
-        "1\n1-\n",
-        "1\n0x1\n",
-        "1\n1.0\n",
-        "1\x0c0\n",
-        "1 \x0c0\n",
-        "1\x000\n",
-        "1\n1000000000000000001\n",
-        "1\n-1000000000000000001\n",
-        "1\n100000000000000000000000000000000000000000\n",
-        "2\n0 500000000000000001\n500000000000000000 0\n",
-        "2\n0 -500000000000000001\n500000000000000000 0\n",
-        "0\n",
-        "-1\n0\n",
-        "513\n",
-        "1000000000000000001\n0\n",
-    ];
-    for text in texts {
-        match read_lolib(rt.alloc(), text.as_bytes()) {
-            Ok(_) => assert!(rt; false, "read {text:?}"),
-            Err(refusal) => assert_eq!(rt; refusal, LolibRefusal::Other, "at {text:?}"),
-        }
+    let alloc = rt.alloc();
+    refuses(&rt, alloc, "", Empty);
+    refuses(&rt, alloc, " \r\n\t\n", Empty);
+    refuses(&rt, alloc, "2 0 1 1 0 x", Empty);
+    refuses(&rt, alloc, "Belgium\n \n", Empty);
+    refuses(&rt, alloc, "1000000000000000001\n0\n", BadSize(0));
+    refuses(&rt, alloc, "Belgium 1975\n\n Table\n1\n0\n", BadSize(15));
+    refuses(&rt, alloc, "513\n", SizeRange(513));
+    refuses(&rt, alloc, "0\n", SizeRange(0));
+    refuses(&rt, alloc, "+\n-1\n", SizeRange(-1));
+    refuses(&rt, alloc, "1\n--1\n", BadEntry(0));
+    refuses(&rt, alloc, "2\n0 1 1- 1000000000000000001\n", BadEntry(2));
+    refuses(&rt, alloc, "1\n0x1\n", BadEntry(0));
+    refuses(&rt, alloc, "2\n0 1000000000000000001 x\n", TooWide(1));
+    refuses(
+        &rt,
+        alloc,
+        "1\n-100000000000000000000000000000000000000000\n",
+        TooWide(0),
+    );
+    refuses(&rt, alloc, "2\n0 1\n1\n", Short(3));
+    refuses(&rt, alloc, "512", Short(0));
+    let heavy = 1_000_000_000_000_000_001;
+    refuses(
+        &rt,
+        alloc,
+        "2\n0 500000000000000001\n500000000000000000 0",
+        TooHeavy(heavy),
+    );
+    refuses(
+        &rt,
+        alloc,
+        "2\n0 -500000000000000001\n500000000000000000 0 x",
+        TooHeavy(heavy),
+    );
+}
+
+fn reads_order(
+    rt: &impl Abort,
+    alloc: Global,
+    text: &str,
+    n: u16,
+    objects: &[u16],
+) -> Result<(), Fail> {
+    let order = read_order(alloc, text.as_bytes(), n)?;
+    let mut found = Vec::new(alloc);
+    for place in 0..order.n() {
+        found.push(order.at(place))?;
     }
+    assert_eq!(rt; found.as_slice(), objects, "at {text:?}");
+    Ok(())
+}
+
+fn refuses_order(rt: &impl Abort, alloc: Global, text: &str, expected: OrderRefusal) {
+    match read_order(alloc, text.as_bytes(), 3) {
+        Ok(_) => assert!(rt; false, "read {text:?}"),
+        Err(refusal) => assert_eq!(rt; refusal, expected, "at {text:?}"),
+    }
+}
+
+#[test]
+fn orders_read(rt: HostRuntime) -> Result<(), Fail> {
+    let alloc = rt.alloc();
+    reads_order(&rt, alloc, "3 2 1\n", 3, &[2, 1, 0])?;
+    reads_order(&rt, alloc, "\r\n+2\t03\n1", 3, &[1, 2, 0])?;
+    reads_order(&rt, alloc, "1", 1, &[0])?;
+    Ok(())
+}
+
+#[test]
+fn orders_refused(rt: HostRuntime) {
+    let alloc = rt.alloc();
+    refuses_order(&rt, alloc, "9 x\n", BadWord(1));
+    refuses_order(&rt, alloc, "1 2 3 1000000000000000001", BadWord(3));
+    refuses_order(&rt, alloc, "", Length(0));
+    refuses_order(&rt, alloc, "1 1 9 1\n", Length(4));
+    refuses_order(&rt, alloc, "1 0 1\n", OutOfRange(1));
+    refuses_order(&rt, alloc, "1 2 4\n", OutOfRange(2));
+    refuses_order(&rt, alloc, "65536 65536 -1\n", OutOfRange(0));
+    refuses_order(&rt, alloc, "1 2 2\n", Repeated(2));
+    refuses_order(&rt, alloc, "2 2 9\n", Repeated(1));
 }

@@ -1,7 +1,7 @@
 // The title of a file.
-ghost use Rattle.std.specs.Prelude.{◌≡◌, []};
+ghost use Rattle.std.specs.Prelude.{◌≡◌, IfOk};
 
-use std::alloc::Global;
+use std::alloc::{AllocError, Global};
 use std::marker::Model;
 
 /// A title, as a list of bytes.
@@ -19,15 +19,15 @@ impl Model for Title {
 }
 
 impl Title {
-    // The title of a file that has none.
-    pub(crate) fn empty(alloc: Global) -> Title
-        ensures { result ≡ [] }
+    // The title with these bytes.
+    pub(crate) fn of_bytes(alloc: Global, bytes: &[u8]) -> Result<Title, AllocError>
+        ensures { IfOk result (λ title. title ≡ bytes.now) }
     {
-        Title {
-            text: Vec::new(alloc),
-        }
+        let text = Vec::from_slice(alloc, bytes)?;
+        Ok(Title { text })
     }
 
+    /// Its bytes; none where a text has no title.
     pub fn bytes(&self) -> &[u8]
         ensures { result.now ≡ self.now }
     {

@@ -3,7 +3,7 @@ use Rattle.std.specs.Prelude.{ℕ, ◌^◌, nat_lt, List, length, Option, None, 
 use Rattle.lop_desk.specs.World.{NamedFile, file_named}
 use Rattle.lop_model.specs.Matrix.{Matrix}
 use Rattle.lop_lolib.specs.declared.lolib.LolibFile.{LolibFile}
-use Rattle.lop_lolib.specs.declared.lolib.LolibRefusal.{LolibRefusal}
+use Rattle.lop_lolib.specs.declared.refusal.LolibRefusal.{LolibRefusal}
 use Rattle.lop_lolib.specs.Reading.{lolib_reading}
 use Rattle.lop_tool.specs.declared.reply.InputRefusal.{InputRefusal}
 use Rattle.lop_tool.specs.declared.reply.InputRefusal.TheVariants.{TooLong, Lolib}
@@ -11,7 +11,7 @@ use Rattle.lop_tool.specs.declared.reply.InputRefusal.TheVariants.{TooLong, Loli
 -- the weights that a text holds
 abbrev pub weights_of : Result LolibFile LolibRefusal → Result Matrix InputRefusal
 weights_of (Ok file) = Ok file.weights
-weights_of (Err refusal) = Err Lolib
+weights_of (Err refusal) = Err (Lolib refusal)
 
 -- what the bytes of an input file are accepted as, or the first refusal
 abbrev pub input_reading : List ℕ → Result Matrix InputRefusal

@@ -3,6 +3,7 @@ pub mod WordsFault
 pub mod Followers
 pub mod AnswerText
 pub mod Input
+pub mod InputRefusal
 pub mod Stops
 pub mod Reply
 pub mod Run

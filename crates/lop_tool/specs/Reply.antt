@@ -7,26 +7,21 @@ use Rattle.lop_core.specs.Outcome.{IsOutcome}
 use Rattle.lop_tool.specs.declared.reply.Solution.{Solution}
 use Rattle.lop_tool.specs.declared.reply.Outcome.{Outcome}
 use Rattle.lop_tool.specs.declared.reply.Outcome.TheVariants.{Accepted, Rejected}
-use Rattle.lop_tool.specs.declared.reply.InputRefusal.{InputRefusal}
-use Rattle.lop_tool.specs.declared.reply.InputRefusal.TheVariants.{TooLong, Lolib}
 use Rattle.lop_tool.specs.declared.reply.Refusal.{Refusal}
 use Rattle.lop_tool.specs.declared.reply.Refusal.TheVariants.{Words, Input, LongCertificate}
 use Rattle.lop_tool.specs.declared.reply.Reply.{Reply}
 use Rattle.lop_tool.specs.declared.reply.Reply.TheVariants.{Refused, Solved, Checked}
 use Rattle.lop_climb.specs.StartOrder.{IsBeckerOrder}
+use Rattle.lop_tool.specs.InputRefusal.{input_refusal_words}
 use Rattle.lop_tool.specs.AnswerText.{is_optimal, solve_text, accepted_text, rejected_line}
 
-abbrev pub input_refusal_word : InputRefusal → List ℕ
-input_refusal_word TooLong = codes "too-long"
-input_refusal_word Lolib = codes "lolib"
-
-abbrev pub refusal_word : Refusal → List ℕ
-refusal_word Words = codes "words"
-refusal_word (Input refusal) = input_refusal_word refusal
-refusal_word LongCertificate = codes "certificate-too-long"
+abbrev pub refusal_words : Refusal → List ℕ
+refusal_words Words = codes "words"
+refusal_words (Input refusal) = input_refusal_words refusal
+refusal_words LongCertificate = codes "certificate-too-long"
 
 abbrev pub refusal_line : Refusal → List ℕ
-refusal_line refusal = codes "refused " ++ refusal_word refusal ++ codes "\n"
+refusal_line refusal = codes "refused " ++ refusal_words refusal ++ codes "\n"
 
 abbrev pub refusal_status : Refusal → ℕ
 refusal_status Words = 2

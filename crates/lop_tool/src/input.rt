@@ -40,7 +40,7 @@ fn weights_in(alloc: Global, bytes: &[u8]) -> Result<Result<Weights, InputRefusa
 {
     match read_lolib(alloc, bytes) {
         Ok(file) => Ok(Ok(file.weights)),
-        Err(LolibRefusal::Other) => Ok(Err(InputRefusal::Lolib)),
         Err(LolibRefusal::Memory) => Err(Stop::Memory),
+        Err(refusal) => Ok(Err(InputRefusal::Lolib(refusal))),
     }
 }

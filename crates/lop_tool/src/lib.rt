@@ -9,6 +9,7 @@ mod deliver;
 mod extension;
 mod input;
 mod judge;
+mod refused;
 mod reply;
 mod report;
 mod search;

@@ -1,19 +1,21 @@
 // What a run replies, and how it is printed.
-ghost use Rattle.std.specs.Prelude.{◌≡◌, ◌≤◌, length, codes};
+ghost use Rattle.std.specs.Prelude.{◌≡◌, ◌≤◌, ◌+◌, ◌++◌, length};
 ghost use Rattle.lop_desk.specs.Whole.{PrintsAll};
 ghost use Rattle.lop_desk.specs.Causes.{HasCause};
-ghost use Rattle.lop_tool.specs.Reply.{refusal_word, refusal_line, refusal_status, reply_text, reply_status, outcome_text, outcome_status, solved_status, IsPrintable};
+ghost use Rattle.lop_tool.specs.Reply.{refusal_words, refusal_line, refusal_status, reply_text, reply_status, outcome_text, outcome_status, solved_status, IsPrintable};
 
+use crate::refused::put_input_refusal;
 use crate::report::{Answer, print_accepted, print_answer, print_rejected};
 use lop_check::Reason;
 use lop_desk::{Desk, DeskFailed, TextRoom, print_all};
+use lop_lolib::LolibRefusal;
 use lop_model::{Order, Weights};
 
 /// Why an input file is refused.
 #[derive(Clone, Copy)]
 pub enum InputRefusal {
     TooLong,
-    Lolib,
+    Lolib(LolibRefusal),
 }
 
 /// Why a command is refused.
@@ -63,15 +65,15 @@ pub enum Stop {
 }
 
 impl Refusal {
-    fn word(self) -> &'static [u8]
-        ensures word { result.now ≡ refusal_word self }
-        ensures short { length result.now ≤ 64 }
+    fn put_words(self, room: &mut TextRoom)
+        requires { length room.old ≤ 64 }
+        ensures words { room.new ≡ room.old ++ refusal_words self }
+        ensures short { length room.new ≤ length room.old + 64 }
     {
         match self {
-            Refusal::Words => b"words",
-            Refusal::Input(InputRefusal::TooLong) => b"too-long",
-            Refusal::Input(InputRefusal::Lolib) => b"lolib",
-            Refusal::LongCertificate => b"certificate-too-long",
+            Refusal::Words => room.put(b"words"),
+            Refusal::Input(refusal) => put_input_refusal(refusal, room),
+            Refusal::LongCertificate => room.put(b"certificate-too-long"),
         }
     }
 
@@ -161,7 +163,7 @@ fn print_refusal<D: Desk>(
 {
     room.clear();
     room.put(b"refused ");
-    room.put(refusal.word());
+    refusal.put_words(room);
     room.put(b"\n");
     print_all(desk, room.bytes())
 }

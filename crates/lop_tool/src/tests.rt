@@ -56,8 +56,8 @@ fn texts(rt: HostRuntime) -> Result<(), Fail> {
             0,
             b"objects 2\norder 1 2\nvalue 500000000000000000\nbound 500000000000000000\nstatus optimal\nnodes 0\ntotal 1000000000000000000\nlinearity 0.5000\n",
         ),
-        (b"2\n0 1\n1\n", 3, b"refused lolib\n"),
-        (b"", 3, b"refused lolib\n"),
+        (b"2\n0 1\n1\n", 3, b"refused short 3\n"),
+        (b"", 3, b"refused empty\n"),
     ];
     for (text, ends, printed) in cases {
         let mut memory = desk(alloc, text, &[], 1000)?;

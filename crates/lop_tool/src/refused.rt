@@ -1,0 +1,49 @@
+// The words of an input's refusal.
+ghost use Rattle.std.specs.Prelude.{◌≡◌, ◌≤◌, ◌+◌, ◌++◌, length};
+ghost use Rattle.lop_tool.specs.InputRefusal.{lolib_refusal_words, input_refusal_words};
+
+use crate::reply::InputRefusal;
+use itoa::Buffer;
+use lop_desk::TextRoom;
+use lop_lolib::LolibRefusal;
+
+/// Appends why an input is refused.
+pub fn put_input_refusal(refusal: InputRefusal, room: &mut TextRoom)
+    requires { length room.old ≤ 64 }
+    ensures words { room.new ≡ room.old ++ input_refusal_words refusal }
+    ensures short { length room.new ≤ length room.old + 64 }
+{
+    match refusal {
+        InputRefusal::TooLong => room.put(b"too-long"),
+        InputRefusal::Lolib(refusal) => put_lolib_refusal(refusal, room),
+    }
+}
+
+fn put_lolib_refusal(refusal: LolibRefusal, room: &mut TextRoom)
+    requires { length room.old ≤ 64 }
+    ensures words { room.new ≡ room.old ++ lolib_refusal_words refusal }
+    ensures short { length room.new ≤ length room.old + 64 }
+{
+    match refusal {
+        LolibRefusal::Empty => room.put(b"empty"),
+        LolibRefusal::BadSize(place) => put(b"bad-size ", Buffer::new().format(place), room),
+        LolibRefusal::SizeRange(n) => put(b"size-range ", Buffer::new().format(n), room),
+        LolibRefusal::BadEntry(index) => put(b"bad-entry ", Buffer::new().format(index), room),
+        LolibRefusal::TooWide(index) => put(b"too-wide ", Buffer::new().format(index), room),
+        LolibRefusal::Short(count) => put(b"short ", Buffer::new().format(count), room),
+        LolibRefusal::TooHeavy(sum) => put(b"too-heavy ", Buffer::new().format(sum), room),
+        LolibRefusal::Memory => {}
+    }
+}
+
+// Appends a word with its blank, and a number.
+fn put(word: &[u8], number: &str, room: &mut TextRoom)
+    requires word { length word.now ≤ 16 }
+    requires number { length number.now ≤ 40 }
+    requires room { length room.old ≤ 64 }
+    ensures words { room.new ≡ room.old ++ (word.now ++ number.now) }
+    ensures short { length room.new ≤ length room.old + 64 }
+{
+    room.put(word);
+    room.put(number.as_bytes());
+}

@@ -1,0 +1,42 @@
+-- The command line.
+use Rattle.std.specs.Prelude.{ℕ, List, [], ◌∷◌, codes, Option, None, Some, if◌then◌else◌}
+use Rattle.std.specs.Str.{bytes_eq}
+use Rattle.lop_words.specs.declared.command.Command.{Command}
+use Rattle.lop_words.specs.declared.command.Command.TheVariants.{Solve, Check}
+use Rattle.lop_words.specs.declared.command.Format.{Format}
+use Rattle.lop_words.specs.Word.{is_name_word, format_of}
+use Rattle.lop_words.specs.Options.{value_of, are_options, budget_of, certificate_of}
+
+-- `solve` with what its options say
+abbrev pub solve_with : Format → List ℕ → Option ℕ → Option (Option (List ℕ)) → Option Command
+solve_with format file (Some nodes) (Some cert) = Some (Solve format file nodes cert)
+solve_with format file (Some nodes) None = None
+solve_with format file None cert = None
+
+-- behind FILE stand the options of `solve`, in any order
+abbrev pub solve_command : Format → List ℕ → List (List ℕ) → Option Command
+solve_command format file words =
+    if are_options words then solve_with format file (budget_of (value_of (codes "--nodes") words)) (certificate_of file (value_of (codes "--cert") words)) else None
+
+-- behind FILE stands the certificate's name
+abbrev pub check_command : Format → List ℕ → List (List ℕ) → Option Command
+check_command format file [] = None
+check_command format file (cert ∷ []) = if is_name_word cert then Some (Check format file cert) else None
+check_command format file (cert ∷ word ∷ words) = None
+
+-- the verb says what stands behind FILE
+abbrev pub verb_command : List ℕ → Format → List ℕ → List (List ℕ) → Option Command
+verb_command verb format file words =
+    if bytes_eq verb (codes "solve") then solve_command format file words else (if bytes_eq verb (codes "check") then check_command format file words else None)
+
+-- the verb is followed by a format and FILE
+abbrev pub formatted_command : List ℕ → Option Format → List ℕ → List (List ℕ) → Option Command
+formatted_command verb None file words = None
+formatted_command verb (Some format) file words = if is_name_word file then verb_command verb format file words else None
+
+-- the command that the words after the program's name spell
+abbrev pub command_of : List (List ℕ) → Option Command
+command_of [] = None
+command_of (verb ∷ []) = None
+command_of (verb ∷ format ∷ []) = None
+command_of (verb ∷ format ∷ file ∷ words) = formatted_command verb (format_of format) file words

@@ -1,0 +1,4 @@
+pub mod Word
+pub mod Options
+pub mod Command
+pub mod WordsFault

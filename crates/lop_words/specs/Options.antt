@@ -1,0 +1,35 @@
+-- The options behind FILE.
+use Rattle.std.specs.Prelude.{ℕ, Bool, true, false, ◌&&◌, ◌||◌, List, [], ◌∷◌, codes, Option, None, Some, is_none, if◌then◌else◌}
+use Rattle.std.specs.Str.{bytes_eq}
+use Rattle.lop_desk.specs.Number.{digits_value}
+use Rattle.lop_words.specs.Word.{is_name_word, is_budget}
+
+-- of words that alternate between options and their values, the value of the option of this name
+abbrev pub value_of : List ℕ → List (List ℕ) → Option (List ℕ)
+value_of name [] = None
+value_of name (option ∷ []) = None
+value_of name (option ∷ value ∷ words) = if bytes_eq option name then Some value else value_of name words
+
+-- the name of an option
+abbrev pub is_option : List ℕ → Bool
+is_option word = bytes_eq word (codes "--nodes") || bytes_eq word (codes "--cert")
+
+-- the name of an option, which doesn't stand in the words behind it
+abbrev pub is_new_option : List ℕ → List (List ℕ) → Bool
+is_new_option option words = is_option option && is_none (value_of option words)
+
+-- the words are options, each with its value, and none stands twice
+abbrev pub are_options : List (List ℕ) → Bool
+are_options [] = true
+are_options (option ∷ []) = false
+are_options (option ∷ value ∷ words) = is_new_option option words && are_options words
+
+-- the budget of nodes, 10,000 where none is given
+abbrev pub budget_of : Option (List ℕ) → Option ℕ
+budget_of None = Some 10000
+budget_of (Some value) = if is_budget value then Some (digits_value value) else None
+
+-- the certificate's name, if one is given; it isn't FILE
+abbrev pub certificate_of : List ℕ → Option (List ℕ) → Option (Option (List ℕ))
+certificate_of file None = Some None
+certificate_of file (Some name) = if is_name_word name then (if bytes_eq name file then None else Some (Some name)) else None

@@ -1,0 +1,38 @@
+// What the words ask for.
+use crate::name::NameWord;
+
+/// How a file of weights is written.
+#[derive(Clone, Copy, Debug, PartialEq, Eq)]
+pub enum Format {
+    /// A matrix.
+    Lolib,
+    /// The orders of voters.
+    Preflib,
+}
+
+/// What the words ask for.
+#[derive(Drop)]
+pub enum Command {
+    /// Solve the file with at most so many evaluated nodes, and with a name, write a certificate there.
+    Solve {
+        format: Format,
+        file: NameWord,
+        nodes: u32,
+        cert: Option<NameWord>,
+    },
+    /// Check the certificate against the file.
+    Check {
+        format: Format,
+        file: NameWord,
+        cert: NameWord,
+    },
+}
+
+/// Why the words are no command.
+#[derive(Clone, Copy, Debug, PartialEq, Eq)]
+pub enum WordsFault {
+    /// They aren't of the shape of a command.
+    Usage,
+    /// Memory ran out.
+    Memory,
+}

@@ -1,0 +1,13 @@
+//! The words of the command line.
+#![tactic(auto)]
+
+mod command;
+mod name;
+mod options;
+mod read;
+#[cfg(test)]
+mod tests;
+
+pub use command::{Command, Format, WordsFault};
+pub use name::NameWord;
+pub use read::read_words;

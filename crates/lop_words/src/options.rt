@@ -1,0 +1,95 @@
+// The options of `solve`.
+ghost use Rattle.std.specs.Prelude.{◌≡◌, Option, None, Some, map, option_map, IfOk, IfErr, MatchOption};
+ghost use Rattle.std.specs.String.{string_bytes};
+ghost use Rattle.lop_words.specs.Word.{is_budget};
+ghost use Rattle.lop_words.specs.Options.{value_of, is_option, is_new_option, are_options, budget_of, certificate_of};
+ghost use Rattle.lop_words.specs.WordsFault.{IsWordsFault};
+
+use crate::command::WordsFault;
+use crate::name::NameWord;
+use lop_desk::plain_number;
+use std::alloc::Global;
+
+// The number of nodes where none is given, and the greatest one.
+const DEFAULT_NODES: u32 = 10_000;
+
+const MOST_NODES: u64 = 1_000_000;
+
+/// Whether the words are options, each with its value, and none stands twice.
+pub fn are_options(words: &[String]) -> bool
+    ensures { result ≡ are_options (map (λ s. string_bytes s) words.now) }
+{
+    let mut rest = words;
+    while let [option, _, others @ ..] = rest {
+        if !is_new_option(option.as_str(), others) {
+            return false;
+        }
+        rest = others;
+    }
+    rest.is_empty()
+}
+
+// Whether the word is an option's name, which doesn't stand in the other words.
+fn is_new_option(option: &str, others: &[String]) -> bool
+    ensures { result ≡ is_new_option option.now (map (λ s. string_bytes s) others.now) }
+{
+    is_option(option) && value_of(option, others).is_none()
+}
+
+fn is_option(word: &str) -> bool
+    ensures { result ≡ is_option word.now }
+{
+    word == "--nodes" || word == "--cert"
+}
+
+/// The value of the option of this name, in words that are options and their values in turn.
+pub fn value_of<'a>(name: &str, words: &'a [String]) -> Option<&'a str>
+    ensures { option_map (λ s. s.now) result ≡ value_of name.now (map (λ s. string_bytes s) words.now) }
+{
+    let mut rest = words;
+    while let [option, value, others @ ..] = rest {
+        if option.as_str() == name {
+            return Some(value.as_str());
+        }
+        rest = others;
+    }
+    None
+}
+
+/// The number of nodes that the option's value spells.
+pub fn budget(value: Option<&str>) -> Option<u32>
+    ensures { result ≡ budget_of (option_map (λ s. s.now) value.entry) }
+{
+    match value {
+        None => Some(DEFAULT_NODES),
+        Some(word) => number_of_nodes(word),
+    }
+}
+
+fn number_of_nodes(word: &str) -> Option<u32>
+    ensures { result ≡ budget_of (Some word.now) }
+{
+    match plain_number(word.as_bytes()) {
+        Some(nodes) if nodes >= 1 && nodes <= MOST_NODES => Some(nodes as u32),
+        _ => None,
+    }
+}
+
+/// The certificate's name that the option's value spells, if there is one. It isn't the file's.
+pub fn certificate(
+    alloc: Global,
+    file: &NameWord,
+    value: Option<&str>,
+) -> Result<Option<NameWord>, WordsFault>
+    ensures name { IfOk result (λ name. certificate_of file.now (option_map (λ s. s.now) value.entry) ≡ Some name) }
+    ensures fault { IfErr result (IsWordsFault (certificate_of file.now (option_map (λ s. s.now) value.entry))) }
+{
+    let Some(word) = value else {
+        return Ok(None);
+    };
+    let name = NameWord::of_word(alloc, word)?;
+    if name.text() == file.text() {
+        return Err(WordsFault::Usage);
+    }
+    Ok(Some(name))
+}

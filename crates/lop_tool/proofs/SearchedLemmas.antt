@@ -1,5 +1,5 @@
 -- What the core of a finished search says of its weights.
-use Rattle.std.proofs.Common.{◌≡◌, ℕ, [], ◌^◌, ◌<◌, List, ℤ, pos, neg_ℤ, ◌≤ℤ◌, sym, ap, subst, arith}
+use Rattle.std.proofs.Common.{◌≡◌, ℕ, [], ◌^◌, ◌<◌, List, ℤ, pos, neg_ℤ, ◌≤ℤ◌, sym, subst, arith}
 use Rattle.std.specs.Prelude.{nat_abs}
 use Rattle.std.proofs.lemmas.Int.{ints}
 use Rattle.lop_model.specs.Matrix.{Matrix, IsWeights, weight}

@@ -5,6 +5,9 @@ use std::test::Fail;
 
 const SECTORS: &[u8] = b"3\n0 5 1\n2 0 4\n3 1 0\n";
 
+const ONE_OBJECT: &[u8] =
+    b"objects 1\norder 1\nvalue 0\nbound 0\nstatus optimal\nnodes 0\ntotal 0\nlinearity none\n";
+
 const SOLVE: &[&str] = &["solve", "lolib", "a"];
 
 /// A desk with one file `a`, in which these calls fail.
@@ -58,6 +61,28 @@ fn texts(rt: HostRuntime) -> Result<(), Fail> {
         ),
         (b"2\n0 1\n1\n", 3, b"refused short 3\n"),
         (b"", 3, b"refused empty\n"),
+    ];
+    for (text, ends, printed) in cases {
+        let mut memory = desk(alloc, text, &[], 1000)?;
+        assert_eq!(rt; status(alloc, SOLVE, &mut memory)?, ends);
+        assert_eq!(rt; memory.printed(), printed);
+    }
+    Ok(())
+}
+
+#[test]
+fn titles_tails_and_refusals(rt: HostRuntime) -> Result<(), Fail> {
+    let alloc = rt.alloc();
+    let cases: [(&[u8], u8, &[u8]); 5] = [
+        (b"Belgium 1975\n1\n0\n", 0, ONE_OBJECT),
+        (b"1\n0\nx y\n", 0, ONE_OBJECT),
+        (b"513\n", 3, b"refused size-range 513\n"),
+        (b"0\n", 3, b"refused size-range 0\n"),
+        (
+            b"2\n0 500000000000000001\n500000000000000000 0\n",
+            3,
+            b"refused too-heavy 1000000000000000001\n",
+        ),
     ];
     for (text, ends, printed) in cases {
         let mut memory = desk(alloc, text, &[], 1000)?;

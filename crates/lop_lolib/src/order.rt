@@ -1,6 +1,7 @@
 // The reader of order files.
 ghost use Rattle.std.specs.Prelude.{◌≡◌, ◌<◌, ◌^◌, length, map, IfOk, IfErr, Ok};
 ghost use Rattle.lop_desk.specs.Number.{whole_value};
+ghost use Rattle.lop_model.specs.Order.{IsOrder};
 ghost use Rattle.lop_lolib.specs.Words.{words_of};
 ghost use Rattle.lop_lolib.specs.OrderReading.{order_reading, numbers_reading, objects_reading, IsOrderRefusal};
 ghost use Rattle.lop_lolib.specs.ClampedObject.{clamped_object};
@@ -45,6 +46,7 @@ impl From<AllocFailed<u16>> for OrderRefusal {
 /// Reads an order of n objects, which count from 1 in a text. One pass, O(bytes + n²); it keeps n numbers.
 pub fn read_order(alloc: Global, bytes: &[u8], n: u16) -> Result<Order, OrderRefusal>
     ensures order { IfOk result (λ order. order_reading n bytes.now ≡ Ok order) }
+    ensures is_order { IfOk result (λ order. IsOrder n order) }
     ensures refusal { IfErr result (IsOrderRefusal (order_reading n bytes.now)) }
 {
     let objects = read_objects(alloc, bytes, n)?;

@@ -13,9 +13,9 @@ use Rattle.lop_certtext.specs.Certificate.{certificate_text}
 use Rattle.lop_certtext.proofs.AcceptedText.{check_answer-certificate_text}
 use Rattle.lop_tool.specs.Input.{input_named, reading_of}
 use Rattle.lop_tool.specs.declared.words.Command.{Command}
-use Rattle.lop_tool.specs.declared.words.Command.TheVariants.{Solve, Check}
+use Rattle.lop_tool.specs.declared.words.Command.TheVariants.{Solve, Check, Value}
 use Rattle.lop_desk.specs.Number.{digits_value}
-use Rattle.lop_tool.specs.Command.{command_of, solve_command, check_command, with_certificate, with_budget, default_budget, is_name_word, is_budget}
+use Rattle.lop_tool.specs.Command.{command_of, verb_command, solve_command, check_command, value_command, with_certificate, with_budget, default_budget, is_name_word, is_budget}
 use Rattle.lop_tool.specs.Run.{certificate_of, Solves, Ended, EndsBy}
 use Rattle.lop_tool.specs.Both.{BothEnded, IsRoundTrip, Agree}
 use Rattle.lop_tool.proofs.Promises.{solves, completes}
@@ -54,22 +54,31 @@ check_not_solve file [] f nodes n is = cc
 check_not_solve file (cert ∷ []) f nodes n is = check_kind (is_name_word cert) file cert f nodes n is
 check_not_solve file (cert ∷ more ∷ words) f nodes n is = cc
 
-either : (b c d : Bool) (x y : Option Command) (z : Command) → cond b (cond c x (cond d y None)) None ≡ Some z → (x ≡ Some z) ⊎ (y ≡ Some z)
-either false c d x y z is = absurd cc
-either true true d x y z is = inl is
-either true false true x y z is = inr is
-either true false false x y z is = absurd cc
+value_kind : (b : Bool) (file order_file f : List ℕ) (nodes : ℕ) (n : Option (List ℕ)) → cond b (Some (Value file order_file)) None ≡ Some (Solve f nodes n) → ⊥
+value_kind true file order_file f nodes n is = cc
+value_kind false file order_file f nodes n is = cc
+
+value_not_solve : (file : List ℕ) (words : List (List ℕ)) (f : List ℕ) (nodes : ℕ) (n : Option (List ℕ)) → value_command file words ≡ Some (Solve f nodes n) → ⊥
+value_not_solve file [] f nodes n is = cc
+value_not_solve file (order_file ∷ []) f nodes n is = value_kind (is_name_word order_file) file order_file f nodes n is
+value_not_solve file (order_file ∷ more ∷ words) f nodes n is = cc
+
+verb_apart : (a b c : Bool) (file : List ℕ) (words : List (List ℕ)) (f n : List ℕ) (nodes : ℕ) → cond a (solve_command file words) (cond b (check_command file words) (cond c (value_command file words) None)) ≡ Some (Solve f nodes (Some n)) → bytes_eq n f ≡ false
+verb_apart true b c file words f n nodes is = solve_apart file words f n nodes is
+verb_apart false true c file words f n nodes is = absurd (check_not_solve file words f nodes (Some n) is)
+verb_apart false false true file words f n nodes is = absurd (value_not_solve file words f nodes (Some n) is)
+verb_apart false false false file words f n nodes is = absurd cc
+
+file_apart : (b : Bool) (verb file : List ℕ) (words : List (List ℕ)) (f n : List ℕ) (nodes : ℕ) → cond b (verb_command verb file words) None ≡ Some (Solve f nodes (Some n)) → bytes_eq n f ≡ false
+file_apart true verb file words f n nodes is = verb_apart (bytes_eq verb (codes "solve")) (bytes_eq verb (codes "check")) (bytes_eq verb (codes "value")) file words f n nodes is
+file_apart false verb file words f n nodes is = absurd cc
 
 -- a command with a certificate names it otherwise than its file
 pub names_apart : (words : List (List ℕ)) (f n : List ℕ) (nodes : ℕ) → command_of words ≡ Some (Solve f nodes (Some n)) → bytes_eq n f ≡ false
 names_apart [] f n nodes is = absurd cc
 names_apart (verb ∷ []) f n nodes is = absurd cc
 names_apart (verb ∷ format ∷ []) f n nodes is = absurd cc
-names_apart (verb ∷ format ∷ file ∷ words) f n nodes is =
-    elim (either (bytes_eq format (codes "lolib") && is_name_word file) (bytes_eq verb (codes "solve")) (bytes_eq verb (codes "check")) (solve_command file words) (check_command file words) (Solve f nodes (Some n)) is) [
-      | inl solve ↦ solve_apart file words f n nodes solve
-      | inr check ↦ absurd (check_not_solve file words f nodes (Some n) check)
-    ]
+names_apart (verb ∷ format ∷ file ∷ words) f n nodes is = file_apart (bytes_eq format (codes "lolib") && is_name_word file) verb file words f n nodes is
 
 -- ---- the second run
 
@@ -102,9 +111,11 @@ round_trip file name nodes w (Some v) new before between now solved checked apar
 trip_names : (first second : Option Command) → IsRoundTrip first second → (file : List ℕ) × (name : List ℕ) × (nodes : ℕ) × (first ≡ Some (Solve file nodes (Some name))) × (second ≡ Some (Check file name))
 trip_names None second trip = absurd trip
 trip_names (Some (Check file cert)) second trip = absurd trip
+trip_names (Some (Value file order_file)) second trip = absurd trip
 trip_names (Some (Solve file nodes None)) second trip = absurd trip
 trip_names (Some (Solve file nodes (Some name))) None trip = absurd trip
 trip_names (Some (Solve file nodes (Some name))) (Some (Solve other more cert)) trip = absurd trip
+trip_names (Some (Solve file nodes (Some name))) (Some (Value other order_file)) trip = absurd trip
 trip_names (Some (Solve file nodes (Some name))) (Some (Check other cert)) trip =
     (file, name, nodes, refl, ap (λ (f : List ℕ). Some (Check f cert)) trip.0 ∙ ap (λ (c : List ℕ). Some (Check file c)) trip.1)
 

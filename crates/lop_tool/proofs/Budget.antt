@@ -5,8 +5,8 @@ use Rattle.std.specs.Prelude.{codes, nat_le}
 use Rattle.std.specs.Str.{bytes_eq}
 use Rattle.lop_desk.specs.Number.{digits_value}
 use Rattle.lop_tool.specs.declared.words.Command.{Command}
-use Rattle.lop_tool.specs.declared.words.Command.TheVariants.{Solve, Check}
-use Rattle.lop_tool.specs.Command.{command_of, solve_command, check_command, with_certificate, with_budget, default_budget, is_name_word, is_plain, is_budget, HasBudget}
+use Rattle.lop_tool.specs.declared.words.Command.TheVariants.{Solve, Check, Value}
+use Rattle.lop_tool.specs.Command.{command_of, verb_command, solve_command, check_command, value_command, with_certificate, with_budget, default_budget, is_name_word, is_plain, is_budget, HasBudget}
 
 some_budget : (c d : Command) → Some c ≡ Some d → HasBudget c → HasBudget d
 some_budget c d same has = let e : c ≡ d = cc in subst HasBudget e has
@@ -47,16 +47,33 @@ check_budget file [] command is = absurd cc
 check_budget file (cert ∷ []) command is = check_kind_budget (is_name_word cert) file cert command is
 check_budget file (cert ∷ more ∷ words) command is = absurd cc
 
-either_budget : (b c d : Bool) (x y : Option Command) (command : Command) → (x ≡ Some command → HasBudget command) → (y ≡ Some command → HasBudget command) → cond b (cond c x (cond d y None)) None ≡ Some command → HasBudget command
-either_budget false c d x y command first second is = absurd cc
-either_budget true true d x y command first second is = first is
-either_budget true false true x y command first second is = second is
-either_budget true false false x y command first second is = absurd cc
+value_kind_budget : (b : Bool) (file order_file : List ℕ) (command : Command) → cond b (Some (Value file order_file)) None ≡ Some command → HasBudget command
+value_kind_budget true file order_file command is = some_budget (Value file order_file) command is tt
+value_kind_budget false file order_file command is = absurd cc
+
+value_budget : (file : List ℕ) (words : List (List ℕ)) (command : Command) → value_command file words ≡ Some command → HasBudget command
+value_budget file [] command is = absurd cc
+value_budget file (order_file ∷ []) command is = value_kind_budget (is_name_word order_file) file order_file command is
+value_budget file (order_file ∷ more ∷ words) command is = absurd cc
+
+one_of_budget : (a b c : Bool) (x y z : Option Command) (command : Command) → (x ≡ Some command → HasBudget command) → (y ≡ Some command → HasBudget command) → (z ≡ Some command → HasBudget command)
+    → cond a x (cond b y (cond c z None)) ≡ Some command → HasBudget command
+one_of_budget true b c x y z command first second third is = first is
+one_of_budget false true c x y z command first second third is = second is
+one_of_budget false false true x y z command first second third is = third is
+one_of_budget false false false x y z command first second third is = absurd cc
+
+verb_budget : (verb file : List ℕ) (words : List (List ℕ)) (command : Command) → verb_command verb file words ≡ Some command → HasBudget command
+verb_budget verb file words command is =
+    one_of_budget (bytes_eq verb (codes "solve")) (bytes_eq verb (codes "check")) (bytes_eq verb (codes "value")) (solve_command file words) (check_command file words) (value_command file words) command
+    (solve_budget file words command) (check_budget file words command) (value_budget file words command) is
+
+file_budget : (b : Bool) (verb file : List ℕ) (words : List (List ℕ)) (command : Command) → cond b (verb_command verb file words) None ≡ Some command → HasBudget command
+file_budget true verb file words command is = verb_budget verb file words command is
+file_budget false verb file words command is = absurd cc
 
 pub HasBudget-command : (words : List (List ℕ)) (command : Command) → command_of words ≡ Some command → HasBudget command
 HasBudget-command [] command is = absurd cc
 HasBudget-command (verb ∷ []) command is = absurd cc
 HasBudget-command (verb ∷ format ∷ []) command is = absurd cc
-HasBudget-command (verb ∷ format ∷ file ∷ words) command is =
-    either_budget (bytes_eq format (codes "lolib") && is_name_word file) (bytes_eq verb (codes "solve")) (bytes_eq verb (codes "check")) (solve_command file words) (check_command file words) command
-    (solve_budget file words command) (check_budget file words command) is
+HasBudget-command (verb ∷ format ∷ file ∷ words) command is = file_budget (bytes_eq format (codes "lolib") && is_name_word file) verb file words command is

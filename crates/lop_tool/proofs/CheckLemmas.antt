@@ -6,15 +6,15 @@ use Rattle.lop_desk.specs.Whole.{OnlyOpens}
 use Rattle.lop_model.specs.Matrix.{Matrix}
 use Rattle.lop_certtext.specs.Answer.{CheckAnswer, too_long, check_answer}
 use Rattle.lop_tool.specs.declared.reply.Outcome.{Outcome}
-use Rattle.lop_tool.specs.declared.reply.Refusal.TheVariants.{Words, Input, LongCertificate}
+use Rattle.lop_tool.specs.declared.reply.Refusal.TheVariants.{Words, Input, Order, LongCertificate}
 use Rattle.lop_tool.specs.declared.reply.Reply.{Reply}
-use Rattle.lop_tool.specs.declared.reply.Reply.TheVariants.{Refused, Solved, Checked}
+use Rattle.lop_tool.specs.declared.reply.Reply.TheVariants.{Refused, Solved, Checked, Valued}
 use Rattle.lop_tool.specs.Input.{input_named}
 use Rattle.lop_tool.specs.Run.{AnswersCheck, IsChecked, IsBounded, answer_of}
 use Rattle.lop_tool.specs.CheckSteps.{ChecksBytes, ChecksNamed, GivesAnswer}
 
 -- the files are the same where only the opened file differs
-same_files : (v w : World) → OnlyOpens (Some v) (Some w) → w.files ≡ v.files
+pub same_files : (v w : World) → OnlyOpens (Some v) (Some w) → w.files ≡ v.files
 same_files v w opens = files_of opens
   where
     the_files : Option World → List NamedFile
@@ -49,6 +49,8 @@ ChecksNamed-opened C name (Some w) (Some v) (Refused LongCertificate) is there c
 ChecksNamed-opened C name old new (Refused (Input refusal)) is there checks = checks
 ChecksNamed-opened C name old new (Refused Words) is there checks = checks
 ChecksNamed-opened C name old new (Solved x) is there checks = checks
+ChecksNamed-opened C name old new (Valued x) is there checks = checks
+ChecksNamed-opened C name old new (Refused (Order refusal)) is there checks = checks
 
 -- the same for an answer that may be none
 pub checks_opened : {E : Type 0} (C : Matrix) (name : List ℕ) (old new : Option World) (result : Result Reply E) → new ≡ with_opened (Some (record { name = name; place = 0 })) old → IsThere old name → IfOk result (ChecksBytes C new) → IfOk result (ChecksNamed C name old)
@@ -77,6 +79,8 @@ AnswersCheck-named C file cert (Some w) (Some v) (Refused LongCertificate) opens
 AnswersCheck-named C file cert old mid (Refused (Input refusal)) opens input checks = absurd checks
 AnswersCheck-named C file cert old mid (Refused Words) opens input checks = checks
 AnswersCheck-named C file cert old mid (Solved x) opens input checks = checks
+AnswersCheck-named C file cert old mid (Valued x) opens input checks = checks
+AnswersCheck-named C file cert old mid (Refused (Order refusal)) opens input checks = checks
 
 pub answers_check : {E : Type 0} (C : Matrix) (file cert : List ℕ) (old mid : Option World) (result : Result Reply E) → OnlyOpens old mid → IfSome old (λ w. input_named w.files file ≡ Some (Ok C)) → IfOk result (ChecksNamed C cert mid) → IfOk result (AnswersCheck file cert old)
 answers_check C file cert old mid (Ok reply) opens input checks = AnswersCheck-named C file cert old mid reply opens input checks

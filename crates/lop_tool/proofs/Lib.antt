@@ -10,3 +10,4 @@ pub mod ExtensionLemmas
 pub mod JudgeLemmas
 pub mod Budget
 pub mod SearchedLemmas
+pub mod ValueLemmas

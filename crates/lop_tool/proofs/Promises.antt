@@ -12,19 +12,20 @@ use Rattle.lop_certtext.specs.declared.reason.Reason.{Reason}
 use Rattle.lop_certtext.specs.Certificate.{IsTreeCertificate}
 use Rattle.lop_certtext.specs.Answer.{CheckAnswer, accepted, rejected, too_long, check_answer}
 use Rattle.lop_tool.specs.declared.words.Command.{Command}
-use Rattle.lop_tool.specs.declared.words.Command.TheVariants.{Solve, Check}
+use Rattle.lop_tool.specs.declared.words.Command.TheVariants.{Solve, Check, Value}
 use Rattle.lop_tool.specs.declared.reply.InputRefusal.{InputRefusal}
+use Rattle.lop_tool.specs.declared.reply.OrderFileRefusal.{OrderFileRefusal}
 use Rattle.lop_tool.specs.declared.reply.Refusal.{Refusal}
-use Rattle.lop_tool.specs.declared.reply.Refusal.TheVariants.{Words, Input, LongCertificate}
+use Rattle.lop_tool.specs.declared.reply.Refusal.TheVariants.{Words, Input, Order, LongCertificate}
 use Rattle.lop_tool.specs.declared.reply.Solution.{Solution}
 use Rattle.lop_tool.specs.declared.reply.Outcome.{Outcome}
 use Rattle.lop_tool.specs.declared.reply.Outcome.TheVariants.{Accepted, Rejected}
 use Rattle.lop_tool.specs.declared.reply.Reply.{Reply}
-use Rattle.lop_tool.specs.declared.reply.Reply.TheVariants.{Refused, Solved, Checked}
+use Rattle.lop_tool.specs.declared.reply.Reply.TheVariants.{Refused, Solved, Checked, Valued}
 use Rattle.lop_tool.specs.AnswerText.{is_optimal}
-use Rattle.lop_tool.specs.Input.{input_named, reading_of}
+use Rattle.lop_tool.specs.Input.{input_named, reading_of, order_named, order_reading_of}
 use Rattle.lop_tool.specs.Reply.{IsSolution, reply_status, outcome_status, outcome_text, refusal_line}
-use Rattle.lop_tool.specs.Run.{IsSolved, Ended, replied, cut_off, faulted, lacked, Answers, Faulted, PrintsOnly, IsChecked, IsBounded, IsRejection, IsRejected, IsRefused, PrintsRejection, PrintsRefusal, answer_of, certificate_of, ExactlyWhere, SolvesFile, AcceptsCertificate, Accepts, EndsBy, IsComplete, Refuses, input_file}
+use Rattle.lop_tool.specs.Run.{IsSolved, Ended, replied, cut_off, faulted, lacked, Answers, Faulted, PrintsOnly, IsChecked, IsBounded, IsRejection, IsRejected, IsRefused, PrintsRejection, PrintsRefusal, answer_of, certificate_of, ExactlyWhere, SolvesFile, AcceptsCertificate, Accepts, EndsBy, IsComplete, Refuses, input_file, WeighsOrder, Weighs, IsWeighedOrder, IsRefusedOrder}
 
 -- ---- statuses
 
@@ -111,6 +112,7 @@ pub solves : (command : Option Command) (old new : Option World) (before now sta
 solves command None new before now status ended = tt
 solves None (Some w) new before now status ended = tt
 solves (Some (Check file cert)) (Some w) new before now status ended = tt
+solves (Some (Value file order_file)) (Some w) new before now status ended = tt
 solves (Some (Solve file nodes cert)) (Some w) new before now status (replied (Solved x) answers is left) = λ _. record {
   solved = x;
   accepted_file = answers.1;
@@ -120,6 +122,8 @@ solves (Some (Solve file nodes cert)) (Some w) new before now status (replied (S
   left = left;
 }
 solves (Some (Solve file nodes cert)) (Some w) new before now status (replied (Checked x) answers is left) = λ _. absurd answers
+solves (Some (Solve file nodes cert)) (Some w) new before now status (replied (Valued x) answers is left) = λ _. absurd answers
+solves (Some (Solve file nodes cert)) (Some w) new before now status (replied (Refused (Order r)) answers is left) = λ _. absurd answers
 solves (Some (Solve file nodes cert)) (Some w) new before now status (replied (Refused Words) answers is left) = λ _. absurd answers
 solves (Some (Solve file nodes cert)) (Some w) new before now status (replied (Refused LongCertificate) answers is left) = λ _. absurd answers
 solves (Some (Solve file nodes cert)) (Some w) new before now status (replied (Refused (Input r)) answers is left) = λ ends. absurd (not_solved status (omega arith) (omega arith) ends)
@@ -131,8 +135,11 @@ pub checks : (command : Option Command) (old new : Option World) (before now sta
 checks command None new before now status ended = tt
 checks None (Some w) new before now status ended = tt
 checks (Some (Solve file nodes cert)) (Some w) new before now status ended = tt
+checks (Some (Value file order_file)) (Some w) new before now status ended = tt
 checks (Some (Check file cert)) (Some w) new before now status (replied (Checked x) answers is left) = accepts_by file cert w (Some w) new status x.weights x.outcome answers.0 answers.1 is left
 checks (Some (Check file cert)) (Some w) new before now status (replied (Solved x) answers is left) = λ _. absurd answers
+checks (Some (Check file cert)) (Some w) new before now status (replied (Valued x) answers is left) = λ _. absurd answers
+checks (Some (Check file cert)) (Some w) new before now status (replied (Refused (Order r)) answers is left) = λ _. absurd answers
 checks (Some (Check file cert)) (Some w) new before now status (replied (Refused Words) answers is left) = λ _. absurd answers
 checks (Some (Check file cert)) (Some w) new before now status (replied (Refused LongCertificate) answers is left) = λ ends. absurd (not_solved status (omega arith) (omega arith) ends)
 checks (Some (Check file cert)) (Some w) new before now status (replied (Refused (Input r)) answers is left) = λ ends. absurd (not_solved status (omega arith) (omega arith) ends)
@@ -140,12 +147,30 @@ checks (Some (Check file cert)) (Some w) new before now status (cut_off reply n 
 checks (Some (Check file cert)) (Some w) new before now status (faulted is fault leaves) = λ ends. absurd (not_solved status (omega arith) (omega arith) ends)
 checks (Some (Check file cert)) (Some w) new before now status (lacked is leaves) = λ ends. absurd (not_solved status (omega arith) (omega arith) ends)
 
+pub values : (command : Option Command) (old new : Option World) (before now status : ℕ) → Ended command old new before now status → IfSome old (λ w. WeighsOrder command w old new status)
+values command None new before now status ended = tt
+values None (Some w) new before now status ended = tt
+values (Some (Solve file nodes cert)) (Some w) new before now status ended = tt
+values (Some (Check file cert)) (Some w) new before now status ended = tt
+values (Some (Value file order_file)) (Some w) new before now status (replied (Valued x) answers is left) = λ _. record { weights = x.weights; value = x.value; weighed = answers; status_is = is; text = left }
+values (Some (Value file order_file)) (Some w) new before now status (replied (Solved x) answers is left) = λ _. absurd answers
+values (Some (Value file order_file)) (Some w) new before now status (replied (Checked x) answers is left) = λ _. absurd answers
+values (Some (Value file order_file)) (Some w) new before now status (replied (Refused Words) answers is left) = λ _. absurd answers
+values (Some (Value file order_file)) (Some w) new before now status (replied (Refused LongCertificate) answers is left) = λ _. absurd answers
+values (Some (Value file order_file)) (Some w) new before now status (replied (Refused (Input r)) answers is left) = λ ends. absurd (not_solved status (omega arith) (omega arith) ends)
+values (Some (Value file order_file)) (Some w) new before now status (replied (Refused (Order r)) answers is left) = λ ends. absurd (not_solved status (omega arith) (omega arith) ends)
+values (Some (Value file order_file)) (Some w) new before now status (cut_off reply n is fault answers left) = λ ends. absurd (not_solved status (omega arith) (omega arith) ends)
+values (Some (Value file order_file)) (Some w) new before now status (faulted is fault leaves) = λ ends. absurd (not_solved status (omega arith) (omega arith) ends)
+values (Some (Value file order_file)) (Some w) new before now status (lacked is leaves) = λ ends. absurd (not_solved status (omega arith) (omega arith) ends)
+
 pub usage_line : (command : Option Command) (old new : Option World) (before now status : ℕ) → Ended command old new before now status → status ≡ 2 → PrintsOnly old new (refusal_line Words)
 usage_line command old new before now status (replied (Solved x) answers is left) two = absurd (solved_not (is_optimal x.answer.value x.answer.bound) status 2 is (omega arith) (omega arith) two)
 usage_line command old new before now status (replied (Checked x) answers is left) two = absurd (outcome_not x.outcome status 2 is (omega arith) (omega arith) two)
 usage_line command old new before now status (replied (Refused Words) answers is left) two = left
 usage_line command old new before now status (replied (Refused LongCertificate) answers is left) two = absurd (omega arith)
 usage_line command old new before now status (replied (Refused (Input r)) answers is left) two = absurd (omega arith)
+usage_line command old new before now status (replied (Refused (Order r)) answers is left) two = absurd (omega arith)
+usage_line command old new before now status (replied (Valued x) answers is left) two = absurd (omega arith)
 usage_line command old new before now status (cut_off reply n is fault answers left) two = absurd (omega arith)
 usage_line command old new before now status (faulted is fault leaves) two = absurd (omega arith)
 usage_line command old new before now status (lacked is leaves) two = absurd (omega arith)
@@ -156,6 +181,17 @@ solve_not_one file nodes cert w (Checked x) status answers is one = answers
 solve_not_one file nodes cert w (Refused Words) status answers is one = answers
 solve_not_one file nodes cert w (Refused LongCertificate) status answers is one = answers
 solve_not_one file nodes cert w (Refused (Input r)) status answers is one = omega arith
+solve_not_one file nodes cert w (Refused (Order r)) status answers is one = answers
+solve_not_one file nodes cert w (Valued x) status answers is one = answers
+
+value_not_one : (file order_file : List ℕ) (w : World) (reply : Reply) (status : ℕ) → Answers (Some (Value file order_file)) (Some w) reply → status ≡ reply_status reply → status ≡ 1 → ⊥
+value_not_one file order_file w (Valued x) status answers is one = omega arith
+value_not_one file order_file w (Solved x) status answers is one = answers
+value_not_one file order_file w (Checked x) status answers is one = answers
+value_not_one file order_file w (Refused Words) status answers is one = answers
+value_not_one file order_file w (Refused LongCertificate) status answers is one = answers
+value_not_one file order_file w (Refused (Input r)) status answers is one = omega arith
+value_not_one file order_file w (Refused (Order r)) status answers is one = omega arith
 
 words_not_one : (reply : Reply) (status : ℕ) → reply ≡ Refused Words → status ≡ reply_status reply → status ≡ 1 → ⊥
 words_not_one reply status answers is one = let two : status ≡ 2 = is ∙ ap reply_status answers in omega arith
@@ -167,8 +203,11 @@ rejection_line command (Some w) new before now status (faulted is fault leaves) 
 rejection_line command (Some w) new before now status (lacked is leaves) = λ one. absurd (omega arith)
 rejection_line None (Some w) new before now status (replied reply answers is left) = λ one. absurd (words_not_one reply status answers is one)
 rejection_line (Some (Solve file nodes cert)) (Some w) new before now status (replied reply answers is left) = λ one. absurd (solve_not_one file nodes cert w reply status answers is one)
+rejection_line (Some (Value file order_file)) (Some w) new before now status (replied reply answers is left) = λ one. absurd (value_not_one file order_file w reply status answers is one)
 rejection_line (Some (Check file cert)) (Some w) new before now status (replied (Checked x) answers is left) = rejects_by file cert w (Some w) new status x.weights x.outcome answers.1 is left
 rejection_line (Some (Check file cert)) (Some w) new before now status (replied (Solved x) answers is left) = λ one. absurd answers
+rejection_line (Some (Check file cert)) (Some w) new before now status (replied (Valued x) answers is left) = λ one. absurd answers
+rejection_line (Some (Check file cert)) (Some w) new before now status (replied (Refused (Order r)) answers is left) = λ one. absurd answers
 rejection_line (Some (Check file cert)) (Some w) new before now status (replied (Refused Words) answers is left) = λ one. absurd answers
 rejection_line (Some (Check file cert)) (Some w) new before now status (replied (Refused LongCertificate) answers is left) = λ one. absurd (omega arith)
 rejection_line (Some (Check file cert)) (Some w) new before now status (replied (Refused (Input r)) answers is left) = λ one. absurd (omega arith)
@@ -184,6 +223,8 @@ reply_or command old new before now status (lacked is leaves) = inr (inl is)
 rejected_reply : (file cert : List ℕ) (w : World) (reply : Reply) (line : ℕ) (reason : Reason) → Answers (Some (Check file cert)) (Some w) reply → IsRejection file cert w line reason → reply_status reply ≡ 1
 rejected_reply file cert w (Checked x) line reason answers r = rejected_status x.outcome line reason (same_answer file cert w x.weights r.weights (answer_of x.outcome) (rejected line reason) answers.1 r.checked)
 rejected_reply file cert w (Solved x) line reason answers r = absurd answers
+rejected_reply file cert w (Valued x) line reason answers r = absurd answers
+rejected_reply file cert w (Refused (Order e)) line reason answers r = absurd answers
 rejected_reply file cert w (Refused Words) line reason answers r = absurd answers
 rejected_reply file cert w (Refused LongCertificate) line reason answers r =
     let same : too_long ≡ rejected line reason = same_answer file cert w answers.0 r.weights too_long (rejected line reason) answers.1 r.checked in absurd cc
@@ -201,6 +242,7 @@ rejects command (Some w) new before now status ended = record {
     always c (inr other) rejection = inr other
     always None (inl r) rejection = absurd rejection.2
     always (Some (Solve file nodes cert)) (inl r) rejection = absurd rejection.2
+    always (Some (Value file order_file)) (inl r) rejection = absurd rejection.2
     always (Some (Check file cert)) (inl r) rejection = inl (r.2 ∙ rejected_reply file cert w r.0 rejection.0 rejection.1 r.1 rejection.2)
 
 pub refusal_line_of : (command : Option Command) (old new : Option World) (before now status : ℕ) → Ended command old new before now status → IfSome old (λ w. status ≡ 3 → PrintsRefusal command w old new)
@@ -211,10 +253,21 @@ refusal_line_of command (Some w) new before now status (lacked is leaves) = λ t
 refusal_line_of None (Some w) new before now status (replied reply answers is left) = λ three. let two : status ≡ 2 = is ∙ ap reply_status answers in absurd (omega arith)
 refusal_line_of (Some (Solve file nodes cert)) (Some w) new before now status (replied (Solved x) answers is left) = λ three. absurd (solved_not (is_optimal x.answer.value x.answer.bound) status 3 is (omega arith) (omega arith) three)
 refusal_line_of (Some (Solve file nodes cert)) (Some w) new before now status (replied (Checked x) answers is left) = λ three. absurd answers
+refusal_line_of (Some (Solve file nodes cert)) (Some w) new before now status (replied (Valued x) answers is left) = λ three. absurd answers
+refusal_line_of (Some (Solve file nodes cert)) (Some w) new before now status (replied (Refused (Order r)) answers is left) = λ three. absurd answers
 refusal_line_of (Some (Solve file nodes cert)) (Some w) new before now status (replied (Refused Words) answers is left) = λ three. absurd answers
 refusal_line_of (Some (Solve file nodes cert)) (Some w) new before now status (replied (Refused LongCertificate) answers is left) = λ three. absurd answers
 refusal_line_of (Some (Solve file nodes cert)) (Some w) new before now status (replied (Refused (Input r)) answers is left) = λ three. (Input r, answers, left)
 refusal_line_of (Some (Check file cert)) (Some w) new before now status (replied (Solved x) answers is left) = λ three. absurd answers
+refusal_line_of (Some (Check file cert)) (Some w) new before now status (replied (Valued x) answers is left) = λ three. absurd answers
+refusal_line_of (Some (Check file cert)) (Some w) new before now status (replied (Refused (Order r)) answers is left) = λ three. absurd answers
+refusal_line_of (Some (Value file order_file)) (Some w) new before now status (replied (Valued x) answers is left) = λ three. absurd (omega arith)
+refusal_line_of (Some (Value file order_file)) (Some w) new before now status (replied (Solved x) answers is left) = λ three. absurd answers
+refusal_line_of (Some (Value file order_file)) (Some w) new before now status (replied (Checked x) answers is left) = λ three. absurd answers
+refusal_line_of (Some (Value file order_file)) (Some w) new before now status (replied (Refused Words) answers is left) = λ three. absurd answers
+refusal_line_of (Some (Value file order_file)) (Some w) new before now status (replied (Refused LongCertificate) answers is left) = λ three. absurd answers
+refusal_line_of (Some (Value file order_file)) (Some w) new before now status (replied (Refused (Input r)) answers is left) = λ three. (Input r, answers, left)
+refusal_line_of (Some (Value file order_file)) (Some w) new before now status (replied (Refused (Order r)) answers is left) = λ three. (Order r, answers, left)
 refusal_line_of (Some (Check file cert)) (Some w) new before now status (replied (Checked x) answers is left) = λ three. absurd (outcome_not x.outcome status 3 is (omega arith) (omega arith) three)
 refusal_line_of (Some (Check file cert)) (Some w) new before now status (replied (Refused Words) answers is left) = λ three. absurd answers
 refusal_line_of (Some (Check file cert)) (Some w) new before now status (replied (Refused LongCertificate) answers is left) = λ three. (LongCertificate, answers, left)
@@ -227,7 +280,18 @@ refused_input (Solve file nodes cert) w (Checked x) e answers is = absurd answer
 refused_input (Solve file nodes cert) w (Refused Words) e answers is = absurd answers
 refused_input (Solve file nodes cert) w (Refused LongCertificate) e answers is = absurd answers
 refused_input (Solve file nodes cert) w (Refused (Input r)) e answers is = refl
+refused_input (Solve file nodes cert) w (Valued x) e answers is = absurd answers
+refused_input (Solve file nodes cert) w (Refused (Order r)) e answers is = absurd answers
 refused_input (Check file cert) w (Solved x) e answers is = absurd answers
+refused_input (Check file cert) w (Valued x) e answers is = absurd answers
+refused_input (Check file cert) w (Refused (Order r)) e answers is = absurd answers
+refused_input (Value file order_file) w (Valued x) e answers is = absurd (cc (answers.accepted_file, is))
+refused_input (Value file order_file) w (Solved x) e answers is = absurd answers
+refused_input (Value file order_file) w (Checked x) e answers is = absurd answers
+refused_input (Value file order_file) w (Refused Words) e answers is = absurd answers
+refused_input (Value file order_file) w (Refused LongCertificate) e answers is = absurd answers
+refused_input (Value file order_file) w (Refused (Input r)) e answers is = refl
+refused_input (Value file order_file) w (Refused (Order r)) e answers is = refl
 refused_input (Check file cert) w (Checked x) e answers is = absurd (cc (answers.1.accepted_file, is))
 refused_input (Check file cert) w (Refused Words) e answers is = absurd answers
 refused_input (Check file cert) w (Refused LongCertificate) e answers is = refl
@@ -237,20 +301,44 @@ refused_input (Check file cert) w (Refused (Input r)) e answers is = refl
 long_reply : (file cert : List ℕ) (w : World) (reply : Reply) (C : Matrix) → Answers (Some (Check file cert)) (Some w) reply → IsChecked file cert w C too_long → reply_status reply ≡ 3
 long_reply file cert w (Checked x) C answers checked = absurd (not_long x.outcome (same_answer file cert w x.weights C (answer_of x.outcome) too_long answers.1 checked))
 long_reply file cert w (Solved x) C answers checked = absurd answers
+long_reply file cert w (Valued x) C answers checked = absurd answers
+long_reply file cert w (Refused (Order r)) C answers checked = absurd answers
 long_reply file cert w (Refused Words) C answers checked = absurd answers
 long_reply file cert w (Refused LongCertificate) C answers checked = refl
 long_reply file cert w (Refused (Input e)) C answers checked = refl
+
+-- what is known of the order is known for sure
+same_order : (file order_file : List ℕ) (w : World) (C : Matrix) (value : ℤ) (e : OrderFileRefusal) → IsWeighedOrder file order_file w C value → IsRefusedOrder file order_file w e → ⊥
+same_order file order_file w C value e weighed refused =
+    let same : C ≡ refused.weights = cc (weighed.accepted_file, refused.accepted_file) in
+    let read : order_named refused.weights.size w.files order_file ≡ Some (Ok weighed.order) = ap (λ (x : Matrix). order_named x.size w.files order_file) (sym same) ∙ weighed.accepted_order in
+    cc (read, refused.refused_order)
+
+-- the order is refused, so no reply has another status
+order_reply : (file order_file : List ℕ) (w : World) (reply : Reply) (e : OrderFileRefusal) → Answers (Some (Value file order_file)) (Some w) reply → IsRefusedOrder file order_file w e → reply_status reply ≡ 3
+order_reply file order_file w (Valued x) e answers refused = absurd (same_order file order_file w x.weights x.value e answers refused)
+order_reply file order_file w (Solved x) e answers refused = absurd answers
+order_reply file order_file w (Checked x) e answers refused = absurd answers
+order_reply file order_file w (Refused Words) e answers refused = absurd answers
+order_reply file order_file w (Refused LongCertificate) e answers refused = absurd answers
+order_reply file order_file w (Refused (Input r)) e answers refused = refl
+order_reply file order_file w (Refused (Order r)) e answers refused = refl
 
 refused_reply : (command : Command) (w : World) (reply : Reply) (refusal : Refusal) → Answers (Some command) (Some w) reply → Refuses (Some command) w refusal → reply_status reply ≡ 3
 refused_reply command w reply Words answers refuses = absurd refuses
 refused_reply command w reply (Input e) answers refuses = refused_input command w reply e answers refuses
 refused_reply (Solve file nodes cert) w reply LongCertificate answers refuses = absurd refuses
+refused_reply (Value file order_file) w reply LongCertificate answers refuses = absurd refuses
+refused_reply (Solve file nodes cert) w reply (Order e) answers refuses = absurd refuses
+refused_reply (Check file cert) w reply (Order e) answers refuses = absurd refuses
+refused_reply (Value file order_file) w reply (Order e) answers refuses = order_reply file order_file w reply e answers refuses
 refused_reply (Check file cert) w reply LongCertificate answers refuses = long_reply file cert w reply refuses.0 answers refuses.1
 
 no_refusal : (w : World) (refusal : Refusal) → Refuses None w refusal → ⊥
 no_refusal w Words refuses = refuses
 no_refusal w (Input e) refuses = cc
 no_refusal w LongCertificate refuses = refuses
+no_refusal w (Order e) refuses = refuses
 
 pub refuses_of : (command : Option Command) (old new : Option World) (before now status : ℕ) → Ended command old new before now status → IfSome old (λ w. ExactlyWhere status 3 (IsRefused command w) (Faulted command old before now))
 refuses_of command None new before now status ended = tt
@@ -274,6 +362,8 @@ solve_ends : (file : List ℕ) (nodes : ℕ) (cert : Option (List ℕ)) (w : Wor
     → ((reply : Reply) × Answers (Some (Solve file nodes cert)) (Some w) reply × (status ≡ reply_status reply)) ⊎ (status ≡ 5) ⊎ ((status ≡ 4) × Faulted (Some (Solve file nodes cert)) (Some w) before now) → (status ≡ 0) ⊎ (status ≡ 6) ⊎ (status ≡ 5)
 solve_ends file nodes cert w C before now status input calm (inl (Solved x, answers, is)) = elim (solved_is (is_optimal x.answer.value x.answer.bound) status is) [ inl zero_is ↦ inl zero_is | inr six ↦ inr (inl six) ]
 solve_ends file nodes cert w C before now status input calm (inl (Checked x, answers, is)) = absurd answers
+solve_ends file nodes cert w C before now status input calm (inl (Valued x, answers, is)) = absurd answers
+solve_ends file nodes cert w C before now status input calm (inl (Refused (Order e), answers, is)) = absurd answers
 solve_ends file nodes cert w C before now status input calm (inl (Refused Words, answers, is)) = absurd answers
 solve_ends file nodes cert w C before now status input calm (inl (Refused LongCertificate, answers, is)) = absurd answers
 solve_ends file nodes cert w C before now status input calm (inl (Refused (Input e), answers, is)) = absurd (cc (answers, input))
@@ -294,6 +384,8 @@ check_ends file cert w C bytes before now status input there calm (inl (Checked 
 check_ends file cert w C bytes before now status input there calm (inl (Refused LongCertificate, answers, is)) =
     subst (λ (a : CheckAnswer). EndsBy a status) (same_answer file cert w answers.0 C too_long (check_answer C bytes) answers.1 (record { accepted_file = input; bytes = bytes; there = there; answer_is = refl })) (inl is)
 check_ends file cert w C bytes before now status input there calm (inl (Solved x, answers, is)) = absurd answers
+check_ends file cert w C bytes before now status input there calm (inl (Valued x, answers, is)) = absurd answers
+check_ends file cert w C bytes before now status input there calm (inl (Refused (Order e), answers, is)) = absurd answers
 check_ends file cert w C bytes before now status input there calm (inl (Refused Words, answers, is)) = absurd answers
 check_ends file cert w C bytes before now status input there calm (inl (Refused (Input e), answers, is)) = absurd (cc (answers, input))
 check_ends file cert w C bytes before now status input there calm (inr (inl five)) = want_ends (check_answer C bytes) status five
@@ -301,8 +393,32 @@ check_ends file cert w C bytes before now status input there calm (inr (inr (fou
 check_ends file cert w C bytes before now status input there calm (inr (inr (four, inl (inr missing)))) = absurd (cc (missing, there))
 check_ends file cert w C bytes before now status input there calm (inr (inr (four, inr rose))) = absurd (calm rose)
 
+not_missing_order : (n : ℕ) (w : World) (name : List ℕ) (input : Result (List ℕ) OrderFileRefusal) → order_named n w.files name ≡ Some input → IsMissing (Some w) name → ⊥
+not_missing_order n w name input is missing = let none : order_named n w.files name ≡ None = ap (order_reading_of n) missing in cc
+
+accepted_order : (file order_file : List ℕ) (w : World) (C : Matrix) (order : List ℕ) (e : OrderFileRefusal) → input_named w.files file ≡ Some (Ok C) → order_named C.size w.files order_file ≡ Some (Ok order) → IsRefusedOrder file order_file w e → ⊥
+accepted_order file order_file w C order e input there refused =
+    let same : C ≡ refused.weights = cc (input, refused.accepted_file) in
+    let read : order_named refused.weights.size w.files order_file ≡ Some (Ok order) = ap (λ (x : Matrix). order_named x.size w.files order_file) (sym same) ∙ there in
+    cc (read, refused.refused_order)
+
+value_ends : (file order_file : List ℕ) (w : World) (C : Matrix) (order : List ℕ) (before now status : ℕ) → input_named w.files file ≡ Some (Ok C) → order_named C.size w.files order_file ≡ Some (Ok order) → (Rose before now → ⊥)
+    → ((reply : Reply) × Answers (Some (Value file order_file)) (Some w) reply × (status ≡ reply_status reply)) ⊎ (status ≡ 5) ⊎ ((status ≡ 4) × Faulted (Some (Value file order_file)) (Some w) before now) → (status ≡ 0) ⊎ (status ≡ 5)
+value_ends file order_file w C order before now status input there calm (inl (Valued x, answers, is)) = inl is
+value_ends file order_file w C order before now status input there calm (inl (Solved x, answers, is)) = absurd answers
+value_ends file order_file w C order before now status input there calm (inl (Checked x, answers, is)) = absurd answers
+value_ends file order_file w C order before now status input there calm (inl (Refused Words, answers, is)) = absurd answers
+value_ends file order_file w C order before now status input there calm (inl (Refused LongCertificate, answers, is)) = absurd answers
+value_ends file order_file w C order before now status input there calm (inl (Refused (Input e), answers, is)) = absurd (cc (answers, input))
+value_ends file order_file w C order before now status input there calm (inl (Refused (Order e), answers, is)) = absurd (accepted_order file order_file w C order e input there answers)
+value_ends file order_file w C order before now status input there calm (inr (inl five)) = inr five
+value_ends file order_file w C order before now status input there calm (inr (inr (four, inl (inl missing)))) = absurd (not_missing w file (Ok C) input missing)
+value_ends file order_file w C order before now status input there calm (inr (inr (four, inl (inr missing)))) = absurd (not_missing_order C.size w order_file (Ok order) there missing)
+value_ends file order_file w C order before now status input there calm (inr (inr (four, inr rose))) = absurd (calm rose)
+
 pub completes : (command : Option Command) (old new : Option World) (before now status : ℕ) → Ended command old new before now status → IfSome old (λ w. IsComplete command w before now status)
 completes command None new before now status ended = tt
 completes None (Some w) new before now status ended = tt
 completes (Some (Solve file nodes cert)) (Some w) new before now status ended = λ C input calm. solve_ends file nodes cert w C before now status input calm (reply_or (Some (Solve file nodes cert)) (Some w) new before now status ended)
 completes (Some (Check file cert)) (Some w) new before now status ended = λ C bytes input there calm. check_ends file cert w C bytes before now status input there calm (reply_or (Some (Check file cert)) (Some w) new before now status ended)
+completes (Some (Value file order_file)) (Some w) new before now status ended = λ C order input there calm. value_ends file order_file w C order before now status input there calm (reply_or (Some (Value file order_file)) (Some w) new before now status ended)

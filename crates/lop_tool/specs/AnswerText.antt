@@ -87,3 +87,8 @@ reason_text Tail = codes "tail"
 -- the answer of `check` to a certificate that it rejects
 abbrev pub rejected_line : ℕ → Reason → List ℕ
 rejected_line line reason = codes "rejected line " ++ decimal line ++ codes " " ++ reason_text reason ++ codes "\n"
+
+-- the answer of `value` for an order of C's objects of this weight
+abbrev pub value_text : Matrix → ℤ → List ℕ
+value_text C value =
+    number_line (codes "objects ") (pos C.size) ++ (number_line (codes "value ") value ++ (number_line (codes "total ") (total C) ++ linearity_line value (total C)))

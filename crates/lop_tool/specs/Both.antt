@@ -3,7 +3,7 @@ use Rattle.std.specs.Prelude.{◌≡◌, ◌⊎◌, ℕ, ◌≤◌, Option, None
 use Rattle.lop_desk.specs.World.{World}
 use Rattle.lop_desk.specs.Causes.{Rose}
 use Rattle.lop_tool.specs.declared.words.Command.{Command}
-use Rattle.lop_tool.specs.declared.words.Command.TheVariants.{Solve, Check}
+use Rattle.lop_tool.specs.declared.words.Command.TheVariants.{Solve, Check, Value}
 use Rattle.lop_tool.specs.Run.{Ended}
 
 -- one run ended, and then the other, which began where the first left the world
@@ -19,9 +19,11 @@ pub record BothEnded (first second : Option Command) (old new : Option World) (b
 abbrev pub IsRoundTrip : Option Command → Option Command → Type 0
 IsRoundTrip None second = ⊥
 IsRoundTrip (Some (Check file cert)) second = ⊥
+IsRoundTrip (Some (Value file order_file)) second = ⊥
 IsRoundTrip (Some (Solve file nodes None)) second = ⊥
 IsRoundTrip (Some (Solve file nodes (Some name))) None = ⊥
 IsRoundTrip (Some (Solve file nodes (Some name))) (Some (Solve other more cert)) = ⊥
+IsRoundTrip (Some (Solve file nodes (Some name))) (Some (Value other order_file)) = ⊥
 IsRoundTrip (Some (Solve file nodes (Some name))) (Some (Check other cert)) = (other ≡ file) × (cert ≡ name)
 
 -- where no call failed and the first ended with 0 or 6, the second ends with the same, or for want of memory

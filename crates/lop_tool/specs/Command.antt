@@ -3,7 +3,7 @@ use Rattle.std.specs.Prelude.{ℕ, ◌≤◌, nat_le, Bool, true, false, not, �
 use Rattle.std.specs.Str.{bytes_eq}
 use Rattle.lop_desk.specs.Number.{all_digits, digits_value}
 use Rattle.lop_tool.specs.declared.words.Command.{Command}
-use Rattle.lop_tool.specs.declared.words.Command.TheVariants.{Solve, Check}
+use Rattle.lop_tool.specs.declared.words.Command.TheVariants.{Solve, Check, Value}
 
 -- a name word isn't empty and doesn't begin with `-`
 abbrev pub is_name_word : List ℕ → Bool
@@ -51,14 +51,24 @@ abbrev pub check_command : List ℕ → List (List ℕ) → Option Command
 check_command file (cert ∷ []) = if is_name_word cert then Some (Check file cert) else None
 check_command file words = None
 
+-- what follows FILE in `value`: the file of an order
+abbrev pub value_command : List ℕ → List (List ℕ) → Option Command
+value_command file (order_file ∷ []) = if is_name_word order_file then Some (Value file order_file) else None
+value_command file words = None
+
+-- what follows FILE is the verb's matter
+abbrev pub verb_command : List ℕ → List ℕ → List (List ℕ) → Option Command
+verb_command verb file words =
+    if bytes_eq verb (codes "solve") then solve_command file words
+    else (if bytes_eq verb (codes "check") then check_command file words else (if bytes_eq verb (codes "value") then value_command file words else None))
+
 -- the command that the words after the program's name spell
 abbrev pub command_of : List (List ℕ) → Option Command
-command_of (verb ∷ format ∷ file ∷ words) =
-    if bytes_eq format (codes "lolib") && is_name_word file then (if bytes_eq verb (codes "solve") then solve_command file words else (if bytes_eq verb (codes "check") then check_command file words else None))
-    else None
+command_of (verb ∷ format ∷ file ∷ words) = if bytes_eq format (codes "lolib") && is_name_word file then verb_command verb file words else None
 command_of words = None
 
 -- the command's node budget is within its limits
 abbrev pub HasBudget : Command → Type 0
 HasBudget (Solve file nodes cert) = (1 ≤ nodes) × (nodes ≤ 1000000)
 HasBudget (Check file cert) = ⊤
+HasBudget (Value file order_file) = ⊤

@@ -5,6 +5,10 @@ use Rattle.lop_model.specs.Matrix.{Matrix}
 use Rattle.lop_lolib.specs.declared.lolib.LolibFile.{LolibFile}
 use Rattle.lop_lolib.specs.declared.refusal.LolibRefusal.{LolibRefusal}
 use Rattle.lop_lolib.specs.Reading.{lolib_reading}
+use Rattle.lop_lolib.specs.declared.order.OrderRefusal.{OrderRefusal}
+use Rattle.lop_lolib.specs.OrderReading.{order_reading}
+use Rattle.lop_tool.specs.declared.reply.OrderFileRefusal.{OrderFileRefusal}
+use Rattle.lop_tool.specs.declared.reply.OrderFileRefusal.TheVariants.{TooLong as LongOrder, Order}
 use Rattle.lop_tool.specs.declared.reply.InputRefusal.{InputRefusal}
 use Rattle.lop_tool.specs.declared.reply.InputRefusal.TheVariants.{TooLong, Lolib}
 
@@ -24,3 +28,20 @@ reading_of (Some bytes) = Some (input_reading bytes)
 -- the input under a name; none where no file has the name
 abbrev pub input_named : List NamedFile → List ℕ → Option (Result Matrix InputRefusal)
 input_named files name = reading_of (file_named files name)
+
+-- the order that a text spells
+abbrev pub order_of : Result (List ℕ) OrderRefusal → Result (List ℕ) OrderFileRefusal
+order_of (Ok order) = Ok order
+order_of (Err refusal) = Err (Order refusal)
+
+-- the order of n objects that the bytes of an order file are accepted as, or the first refusal
+abbrev pub order_file_reading : ℕ → List ℕ → Result (List ℕ) OrderFileRefusal
+order_file_reading n bytes = if nat_lt (2 ^ 26) (length bytes) then Err LongOrder else order_of (order_reading n bytes)
+
+abbrev pub order_reading_of : ℕ → Option (List ℕ) → Option (Result (List ℕ) OrderFileRefusal)
+order_reading_of n None = None
+order_reading_of n (Some bytes) = Some (order_file_reading n bytes)
+
+-- the order under a name; none where no file has the name
+abbrev pub order_named : ℕ → List NamedFile → List ℕ → Option (Result (List ℕ) OrderFileRefusal)
+order_named n files name = order_reading_of n (file_named files name)

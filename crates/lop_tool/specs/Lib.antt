@@ -8,5 +8,6 @@ pub mod Stops
 pub mod Reply
 pub mod Run
 pub mod CheckSteps
+pub mod ValueSteps
 pub mod Keeping
 pub mod Both

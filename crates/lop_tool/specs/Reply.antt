@@ -8,16 +8,17 @@ use Rattle.lop_tool.specs.declared.reply.Solution.{Solution}
 use Rattle.lop_tool.specs.declared.reply.Outcome.{Outcome}
 use Rattle.lop_tool.specs.declared.reply.Outcome.TheVariants.{Accepted, Rejected}
 use Rattle.lop_tool.specs.declared.reply.Refusal.{Refusal}
-use Rattle.lop_tool.specs.declared.reply.Refusal.TheVariants.{Words, Input, LongCertificate}
+use Rattle.lop_tool.specs.declared.reply.Refusal.TheVariants.{Words, Input, Order, LongCertificate}
 use Rattle.lop_tool.specs.declared.reply.Reply.{Reply}
-use Rattle.lop_tool.specs.declared.reply.Reply.TheVariants.{Refused, Solved, Checked}
+use Rattle.lop_tool.specs.declared.reply.Reply.TheVariants.{Refused, Solved, Checked, Valued}
 use Rattle.lop_climb.specs.StartOrder.{IsBeckerOrder}
-use Rattle.lop_tool.specs.InputRefusal.{input_refusal_words}
-use Rattle.lop_tool.specs.AnswerText.{is_optimal, solve_text, accepted_text, rejected_line}
+use Rattle.lop_tool.specs.InputRefusal.{input_refusal_words, order_file_refusal_words}
+use Rattle.lop_tool.specs.AnswerText.{is_optimal, solve_text, accepted_text, rejected_line, value_text}
 
 abbrev pub refusal_words : Refusal → List ℕ
 refusal_words Words = codes "words"
 refusal_words (Input refusal) = input_refusal_words refusal
+refusal_words (Order refusal) = order_file_refusal_words refusal
 refusal_words LongCertificate = codes "certificate-too-long"
 
 abbrev pub refusal_line : Refusal → List ℕ
@@ -26,6 +27,7 @@ refusal_line refusal = codes "refused " ++ refusal_words refusal ++ codes "\n"
 abbrev pub refusal_status : Refusal → ℕ
 refusal_status Words = 2
 refusal_status (Input refusal) = 3
+refusal_status (Order refusal) = 3
 refusal_status LongCertificate = 3
 
 abbrev pub solution_text : Solution → List ℕ
@@ -48,11 +50,13 @@ abbrev pub reply_text : Reply → List ℕ
 reply_text (Refused refusal) = refusal_line refusal
 reply_text (Solved x) = solution_text x
 reply_text (Checked x) = outcome_text x.outcome
+reply_text (Valued x) = value_text x.weights x.value
 
 abbrev pub reply_status : Reply → ℕ
 reply_status (Refused refusal) = refusal_status refusal
 reply_status (Solved x) = solved_status x.answer.value x.answer.bound
 reply_status (Checked x) = outcome_status x.outcome
+reply_status (Valued x) = 0
 
 -- the order is the start order, the value its weight, the bound the pair bound, which no order's weight exceeds;
 -- a node is evaluated only where the two differ
@@ -83,3 +87,4 @@ abbrev pub IsPrintable : Reply → Type 0
 IsPrintable (Refused refusal) = Unit {0}
 IsPrintable (Solved x) = (length x.order ≡ x.weights.size) × (x.answer.value ≤ℤ pos (2 ^ 63))
 IsPrintable (Checked x) = Unit {0}
+IsPrintable (Valued x) = x.value ≤ℤ pos (2 ^ 63)

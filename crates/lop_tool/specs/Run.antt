@@ -3,25 +3,26 @@ use Rattle.std.specs.Prelude.{◌≡◌, ◌⊎◌, ℕ, List, take, ℤ, Option
 use Rattle.lop_desk.specs.World.{World, NamedFile, file_named, put_file, with_opened, with_made, with_printed}
 use Rattle.lop_desk.specs.Causes.{Rose}
 use Rattle.lop_desk.specs.Desk.{IsMissing}
-use Rattle.lop_model.specs.Matrix.{Matrix, IsUpperBound}
+use Rattle.lop_model.specs.Matrix.{Matrix, IsUpperBound, weight}
 use Rattle.lop_certtext.specs.declared.reason.Reason.{Reason}
 use Rattle.lop_check.specs.Verdict.{IsWeighed}
 use Rattle.lop_certtext.specs.Certificate.{Certificate, certificate_text, IsTreeCertificate}
 use Rattle.lop_certtext.specs.Answer.{CheckAnswer, accepted, rejected, too_long, check_answer}
 use Rattle.lop_tool.specs.declared.words.Command.{Command}
-use Rattle.lop_tool.specs.declared.words.Command.TheVariants.{Solve, Check}
+use Rattle.lop_tool.specs.declared.words.Command.TheVariants.{Solve, Check, Value}
 use Rattle.lop_tool.specs.declared.reply.InputRefusal.{InputRefusal}
+use Rattle.lop_tool.specs.declared.reply.OrderFileRefusal.{OrderFileRefusal}
 use Rattle.lop_tool.specs.declared.reply.Refusal.{Refusal}
-use Rattle.lop_tool.specs.declared.reply.Refusal.TheVariants.{Words, Input, LongCertificate}
+use Rattle.lop_tool.specs.declared.reply.Refusal.TheVariants.{Words, Input, Order, LongCertificate}
 use Rattle.lop_tool.specs.declared.reply.Solution.{Solution}
 use Rattle.lop_tool.specs.declared.reply.Outcome.{Outcome}
 use Rattle.lop_tool.specs.declared.reply.Outcome.TheVariants.{Accepted, Rejected}
 use Rattle.lop_tool.specs.declared.reply.Reply.{Reply}
-use Rattle.lop_tool.specs.declared.reply.Reply.TheVariants.{Refused, Solved, Checked}
+use Rattle.lop_tool.specs.declared.reply.Reply.TheVariants.{Refused, Solved, Checked, Valued}
 use Rattle.lop_tool.specs.declared.reply.Stop.{Stop}
 use Rattle.lop_tool.specs.declared.reply.Stop.TheVariants.{Fault, Memory}
-use Rattle.lop_tool.specs.AnswerText.{accepted_text, rejected_line}
-use Rattle.lop_tool.specs.Input.{input_named}
+use Rattle.lop_tool.specs.AnswerText.{accepted_text, rejected_line, value_text}
+use Rattle.lop_tool.specs.Input.{input_named, order_named}
 use Rattle.lop_tool.specs.Reply.{IsSolution, IsSearched, refusal_line, reply_text, reply_status, solved_status, solution_text}
 
 -- the files and the printed bytes alone
@@ -40,21 +41,23 @@ LeavesAll old new = settled new ≡ settled old
 abbrev pub input_file : Command → List ℕ
 input_file (Solve file nodes cert) = file
 input_file (Check file cert) = file
+input_file (Value file order_file) = file
 
 -- the input of a command: none without a command, and where its file isn't there
 abbrev pub input_for : Option Command → List NamedFile → Option (Result Matrix InputRefusal)
 input_for None files = None
 input_for (Some command) files = input_named files (input_file command)
 
--- the certificate that a command reads isn't there
-abbrev pub CertMissing : Command → Option World → Type 0
-CertMissing (Solve file nodes cert) old = ⊥
-CertMissing (Check file cert) old = IsMissing old cert
+-- the second file that a command reads, a certificate or an order, isn't there
+abbrev pub SecondMissing : Command → Option World → Type 0
+SecondMissing (Solve file nodes cert) old = ⊥
+SecondMissing (Check file cert) old = IsMissing old cert
+SecondMissing (Value file order_file) old = IsMissing old order_file
 
 -- a file that the command names for reading isn't there
 abbrev pub NamesMissing : Option Command → Option World → Type 0
 NamesMissing None old = ⊥
-NamesMissing (Some command) old = IsMissing old (input_file command) ⊎ CertMissing command old
+NamesMissing (Some command) old = IsMissing old (input_file command) ⊎ SecondMissing command old
 
 -- what status 4 comes from
 abbrev pub Faulted : Option Command → Option World → ℕ → ℕ → Type 0
@@ -72,6 +75,8 @@ AnswersSolve file nodes cert old (Refused (Input refusal)) = IfSome old (λ w. i
 AnswersSolve file nodes cert old (Refused Words) = ⊥
 AnswersSolve file nodes cert old (Refused LongCertificate) = ⊥
 AnswersSolve file nodes cert old (Checked x) = ⊥
+AnswersSolve file nodes cert old (Valued x) = ⊥
+AnswersSolve file nodes cert old (Refused (Order refusal)) = ⊥
 
 -- the file is accepted with C, and the checker's answer for the certificate is this one
 pub record IsChecked (file cert : List ℕ) (w : World) (C : Matrix) (answer : CheckAnswer) : Type 0 where
@@ -97,11 +102,37 @@ AnswersCheck file cert old (Refused (Input refusal)) = IfSome old (λ w. input_n
 AnswersCheck file cert old (Refused LongCertificate) = IfSome old (λ w. (C : Matrix) × IsChecked file cert w C too_long)
 AnswersCheck file cert old (Refused Words) = ⊥
 AnswersCheck file cert old (Solved x) = ⊥
+AnswersCheck file cert old (Valued x) = ⊥
+AnswersCheck file cert old (Refused (Order refusal)) = ⊥
+
+-- the file is accepted with C and the other file with an order of C's objects, which has that weight
+pub record IsWeighedOrder (file order_file : List ℕ) (w : World) (C : Matrix) (value : ℤ) : Type 0 where
+  pub accepted_file : input_named w.files file ≡ Some (Ok C)
+  pub order : List ℕ
+  pub accepted_order : order_named C.size w.files order_file ≡ Some (Ok order)
+  pub value_is : value ≡ weight C order
+
+-- the file is accepted, and the order is refused for this
+pub record IsRefusedOrder (file order_file : List ℕ) (w : World) (refusal : OrderFileRefusal) : Type 0 where
+  pub weights : Matrix
+  pub accepted_file : input_named w.files file ≡ Some (Ok weights)
+  pub refused_order : order_named weights.size w.files order_file ≡ Some (Err refusal)
+
+-- the reply to `value`: the file or the order is refused, or this is its weight
+abbrev pub AnswersValue : List ℕ → List ℕ → Option World → Reply → Type 0
+AnswersValue file order_file old (Valued x) = IfSome old (λ w. IsWeighedOrder file order_file w x.weights x.value)
+AnswersValue file order_file old (Refused (Input refusal)) = IfSome old (λ w. input_named w.files file ≡ Some (Err refusal))
+AnswersValue file order_file old (Refused (Order refusal)) = IfSome old (λ w. IsRefusedOrder file order_file w refusal)
+AnswersValue file order_file old (Refused LongCertificate) = ⊥
+AnswersValue file order_file old (Refused Words) = ⊥
+AnswersValue file order_file old (Solved x) = ⊥
+AnswersValue file order_file old (Checked x) = ⊥
 
 -- the reply is the one to this command, and where files are told, to what they hold
 abbrev pub AnswersCommand : Command → Option World → Reply → Type 0
 AnswersCommand (Solve file nodes cert) old reply = AnswersSolve file nodes cert old reply
 AnswersCommand (Check file cert) old reply = AnswersCheck file cert old reply
+AnswersCommand (Value file order_file) old reply = AnswersValue file order_file old reply
 
 abbrev pub Answers : Option Command → Option World → Reply → Type 0
 Answers None old reply = reply ≡ Refused Words
@@ -126,11 +157,13 @@ certificate_file (Some name) x = Some (record { name = name; bytes = certificate
 abbrev pub cert_name : Command → Option (List ℕ)
 cert_name (Solve file nodes cert) = cert
 cert_name (Check file cert) = None
+cert_name (Value file order_file) = None
 
 -- the file that a reply leaves under this name
 abbrev pub reply_file : Option (List ℕ) → Reply → Option NamedFile
 reply_file name (Solved x) = certificate_file name x
 reply_file name (Checked x) = None
+reply_file name (Valued x) = None
 reply_file name (Refused refusal) = None
 
 abbrev pub command_name : Option Command → Option (List ℕ)
@@ -175,6 +208,7 @@ pub record Solves (file : List ℕ) (nodes : ℕ) (cert : Option (List ℕ)) (w 
 abbrev pub SolvesFile : Option Command → World → Option World → Option World → ℕ → Type 0
 SolvesFile None w old new status = ⊤
 SolvesFile (Some (Check file cert)) w old new status = ⊤
+SolvesFile (Some (Value file order_file)) w old new status = ⊤
 SolvesFile (Some (Solve file nodes cert)) w old new status = (status ≡ 0) ⊎ (status ≡ 6) → Solves file nodes cert w old new status
 
 -- the checker accepts the certificate, no order of the file weighs more than the bound, and both numbers were printed
@@ -192,7 +226,23 @@ pub record Accepts (file cert : List ℕ) (w : World) (old new : Option World) (
 abbrev pub AcceptsCertificate : Option Command → World → Option World → Option World → ℕ → Type 0
 AcceptsCertificate None w old new status = ⊤
 AcceptsCertificate (Some (Solve file nodes cert)) w old new status = ⊤
+AcceptsCertificate (Some (Value file order_file)) w old new status = ⊤
 AcceptsCertificate (Some (Check file cert)) w old new status = (status ≡ 0) ⊎ (status ≡ 6) → Accepts file cert w old new status
+
+-- the order's weight in the file was printed
+pub record Weighs (file order_file : List ℕ) (w : World) (old new : Option World) (status : ℕ) : Type 0 where
+  pub weights : Matrix
+  pub value : ℤ
+  pub weighed : IsWeighedOrder file order_file w weights value
+  pub status_is : status ≡ 0
+  pub text : PrintsOnly old new (value_text weights value)
+
+-- with status 0 or 6, `value` weighs its order
+abbrev pub WeighsOrder : Option Command → World → Option World → Option World → ℕ → Type 0
+WeighsOrder None w old new status = ⊤
+WeighsOrder (Some (Solve file nodes cert)) w old new status = ⊤
+WeighsOrder (Some (Check file cert)) w old new status = ⊤
+WeighsOrder (Some (Value file order_file)) w old new status = (status ≡ 0) ⊎ (status ≡ 6) → Weighs file order_file w old new status
 
 -- the file of `check` is accepted, and the checker rejects the certificate
 pub record IsRejection (file cert : List ℕ) (w : World) (line : ℕ) (reason : Reason) : Type 0 where
@@ -202,6 +252,7 @@ pub record IsRejection (file cert : List ℕ) (w : World) (line : ℕ) (reason :
 abbrev pub Rejects : Option Command → World → ℕ → Reason → Type 0
 Rejects None w line reason = ⊥
 Rejects (Some (Solve file nodes cert)) w line reason = ⊥
+Rejects (Some (Value file order_file)) w line reason = ⊥
 Rejects (Some (Check file cert)) w line reason = IsRejection file cert w line reason
 
 -- the certificate of the command is rejected at a line
@@ -216,13 +267,22 @@ PrintsRejection command w old new = (line : ℕ) × (reason : Reason) × Rejects
 abbrev pub HasLongCertificate : Option Command → World → Type 0
 HasLongCertificate None w = ⊥
 HasLongCertificate (Some (Solve file nodes cert)) w = ⊥
+HasLongCertificate (Some (Value file order_file)) w = ⊥
 HasLongCertificate (Some (Check file cert)) w = (C : Matrix) × IsChecked file cert w C too_long
+
+-- the file of `value` is accepted, and the order is refused for this
+abbrev pub HasRefusedOrder : Option Command → World → OrderFileRefusal → Type 0
+HasRefusedOrder None w refusal = ⊥
+HasRefusedOrder (Some (Solve file nodes cert)) w refusal = ⊥
+HasRefusedOrder (Some (Check file cert)) w refusal = ⊥
+HasRefusedOrder (Some (Value file order_file)) w refusal = IsRefusedOrder file order_file w refusal
 
 -- an input of the command is refused with this line
 abbrev pub Refuses : Option Command → World → Refusal → Type 0
 Refuses command w Words = ⊥
 Refuses command w (Input refusal) = input_for command w.files ≡ Some (Err refusal)
 Refuses command w LongCertificate = HasLongCertificate command w
+Refuses command w (Order refusal) = HasRefusedOrder command w refusal
 
 abbrev pub IsRefused : Option Command → World → Type 0
 IsRefused command w = (refusal : Refusal) × Refuses command w refusal
@@ -248,3 +308,5 @@ IsComplete (Some (Solve file nodes cert)) w before now status =
     (C : Matrix) → input_named w.files file ≡ Some (Ok C) → ¬ (Rose before now) → (status ≡ 0) ⊎ (status ≡ 6) ⊎ (status ≡ 5)
 IsComplete (Some (Check file cert)) w before now status =
     (C : Matrix) (bytes : List ℕ) → input_named w.files file ≡ Some (Ok C) → file_named w.files cert ≡ Some bytes → ¬ (Rose before now) → EndsBy (check_answer C bytes) status
+IsComplete (Some (Value file order_file)) w before now status =
+    (C : Matrix) (order : List ℕ) → input_named w.files file ≡ Some (Ok C) → order_named C.size w.files order_file ≡ Some (Ok order) → ¬ (Rose before now) → (status ≡ 0) ⊎ (status ≡ 5)

@@ -44,8 +44,8 @@ fn keep<D: Desk>(
             ..
         } => match reply {
             Reply::Solved(x) => write_certificate(x, name.text(), desk, room),
-            Reply::Refused(_) | Reply::Checked(_) => Ok(()),
+            Reply::Refused(_) | Reply::Checked(_) | Reply::Valued(_) => Ok(()),
         },
-        Command::Solve { cert: None, .. } | Command::Check { .. } => Ok(()),
+        Command::Solve { cert: None, .. } | Command::Check { .. } | Command::Value { .. } => Ok(()),
     }
 }

@@ -15,6 +15,7 @@ mod report;
 mod search;
 mod solve;
 mod top;
+mod weighing;
 mod words;
 
 pub use both::solve_then_check;

@@ -1,11 +1,11 @@
 // The words of an input's refusal.
 ghost use Rattle.std.specs.Prelude.{◌≡◌, ◌≤◌, ◌+◌, ◌++◌, length};
-ghost use Rattle.lop_tool.specs.InputRefusal.{lolib_refusal_words, input_refusal_words};
+ghost use Rattle.lop_tool.specs.InputRefusal.{lolib_refusal_words, input_refusal_words, order_refusal_words, order_file_refusal_words};
 
-use crate::reply::InputRefusal;
+use crate::reply::{InputRefusal, OrderFileRefusal};
 use itoa::Buffer;
 use lop_desk::TextRoom;
-use lop_lolib::LolibRefusal;
+use lop_lolib::{LolibRefusal, OrderRefusal};
 
 /// Appends why an input is refused.
 pub fn put_input_refusal(refusal: InputRefusal, room: &mut TextRoom)
@@ -33,6 +33,32 @@ fn put_lolib_refusal(refusal: LolibRefusal, room: &mut TextRoom)
         LolibRefusal::Short(count) => put(b"short ", Buffer::new().format(count), room),
         LolibRefusal::TooHeavy(sum) => put(b"too-heavy ", Buffer::new().format(sum), room),
         LolibRefusal::Memory => {}
+    }
+}
+
+/// Appends why the file of an order is refused.
+pub fn put_order_refusal(refusal: OrderFileRefusal, room: &mut TextRoom)
+    requires { length room.old ≤ 64 }
+    ensures words { room.new ≡ room.old ++ order_file_refusal_words refusal }
+    ensures short { length room.new ≤ length room.old + 64 }
+{
+    match refusal {
+        OrderFileRefusal::TooLong => room.put(b"too-long"),
+        OrderFileRefusal::Order(refusal) => put_order_fault(refusal, room),
+    }
+}
+
+fn put_order_fault(refusal: OrderRefusal, room: &mut TextRoom)
+    requires { length room.old ≤ 64 }
+    ensures words { room.new ≡ room.old ++ order_refusal_words refusal }
+    ensures short { length room.new ≤ length room.old + 64 }
+{
+    match refusal {
+        OrderRefusal::BadWord(place) => put(b"order-word ", Buffer::new().format(place), room),
+        OrderRefusal::Length(count) => put(b"order-length ", Buffer::new().format(count), room),
+        OrderRefusal::OutOfRange(place) => put(b"order-range ", Buffer::new().format(place), room),
+        OrderRefusal::Repeated(place) => put(b"order-repeated ", Buffer::new().format(place), room),
+        OrderRefusal::Memory => {}
     }
 }
 

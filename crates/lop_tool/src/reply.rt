@@ -4,11 +4,11 @@ ghost use Rattle.lop_desk.specs.Whole.{PrintsAll};
 ghost use Rattle.lop_desk.specs.Causes.{HasCause};
 ghost use Rattle.lop_tool.specs.Reply.{refusal_words, refusal_line, refusal_status, reply_text, reply_status, outcome_text, outcome_status, solved_status, IsPrintable};
 
-use crate::refused::put_input_refusal;
-use crate::report::{Answer, print_accepted, print_answer, print_rejected};
+use crate::refused::{put_input_refusal, put_order_refusal};
+use crate::report::{Answer, print_accepted, print_answer, print_rejected, print_value};
 use lop_check::Reason;
 use lop_desk::{Desk, DeskFailed, TextRoom, print_all};
-use lop_lolib::LolibRefusal;
+use lop_lolib::{LolibRefusal, OrderRefusal};
 use lop_model::{Order, Weights};
 
 /// Why an input file is refused.
@@ -18,11 +18,19 @@ pub enum InputRefusal {
     Lolib(LolibRefusal),
 }
 
+/// Why the file of an order is refused.
+#[derive(Clone, Copy)]
+pub enum OrderFileRefusal {
+    TooLong,
+    Order(OrderRefusal),
+}
+
 /// Why a command is refused.
 #[derive(Clone, Copy)]
 pub enum Refusal {
     Words,
     Input(InputRefusal),
+    Order(OrderFileRefusal),
     /// The certificate is longer than the checker reads.
     LongCertificate,
 }
@@ -49,12 +57,20 @@ pub struct CheckedCertificate {
     pub outcome: Outcome,
 }
 
+/// What an order weighs.
+#[derive(Drop)]
+pub struct Valuation {
+    pub weights: Weights,
+    pub value: i128,
+}
+
 /// What a run replies.
 #[derive(Drop)]
 pub enum Reply {
     Refused(Refusal),
     Solved(Solution),
     Checked(CheckedCertificate),
+    Valued(Valuation),
 }
 
 /// Why a run has no reply.
@@ -73,6 +89,7 @@ impl Refusal {
         match self {
             Refusal::Words => room.put(b"words"),
             Refusal::Input(refusal) => put_input_refusal(refusal, room),
+            Refusal::Order(refusal) => put_order_refusal(refusal, room),
             Refusal::LongCertificate => room.put(b"certificate-too-long"),
         }
     }
@@ -82,7 +99,7 @@ impl Refusal {
     {
         match self {
             Refusal::Words => 2,
-            Refusal::Input(_) | Refusal::LongCertificate => 3,
+            Refusal::Input(_) | Refusal::Order(_) | Refusal::LongCertificate => 3,
         }
     }
 }
@@ -116,6 +133,7 @@ impl Reply {
             Reply::Refused(refusal) => refusal.status(),
             Reply::Solved(solution) => solved_status(solution.answer.value, solution.answer.bound),
             Reply::Checked(checked) => checked.outcome.status(),
+            Reply::Valued(_) => 0,
         }
     }
 }
@@ -134,6 +152,7 @@ pub fn print_reply<D: Desk>(
         Reply::Refused(refusal) => print_refusal(*refusal, desk, room),
         Reply::Solved(x) => print_answer(&x.answer, &x.order, &x.weights, desk, room),
         Reply::Checked(x) => print_outcome(x.outcome, desk, room),
+        Reply::Valued(x) => print_value(x.value, &x.weights, desk, room),
     }
 }
 

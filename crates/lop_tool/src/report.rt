@@ -4,7 +4,7 @@ ghost use Rattle.std.specs.List.{flat_map};
 ghost use Rattle.lop_model.specs.Matrix.{total};
 ghost use Rattle.lop_desk.specs.Whole.{PrintsAll};
 ghost use Rattle.lop_desk.specs.Causes.{HasCause};
-ghost use Rattle.lop_tool.specs.AnswerText.{number_line, order_line, status_line, linearity_parts, linearity_text, linearity_line, four_digits, order_lines, figure_lines, solve_text, object_word, digit_code, accepted_text, check_status_line, rejected_line, reason_text, two_numbers};
+ghost use Rattle.lop_tool.specs.AnswerText.{number_line, order_line, status_line, linearity_parts, linearity_text, linearity_line, four_digits, order_lines, figure_lines, solve_text, value_text, object_word, digit_code, accepted_text, check_status_line, rejected_line, reason_text, two_numbers};
 
 use itoa::Buffer;
 use lop_check::Reason;
@@ -72,6 +72,24 @@ fn print_figure_lines<D: Desk>(
     print_count(b"nodes ", answer.nodes, desk, room)?;
     print_number(b"total ", total, desk, room)?;
     print_linearity(answer.value, total, desk, room)
+}
+
+/// Prints what an order weighs, one `print_all` a line.
+pub fn print_value<D: Desk>(
+    value: i128,
+    weights: &Weights,
+    desk: &mut D,
+    room: &mut TextRoom,
+) -> Result<(), DeskFailed>
+    requires { value ≤ℤ pos (2 ^ 63) }
+    ensures effect { PrintsAll (D.told desk.old) (D.told desk.new) (value_text weights.now value) result }
+    ensures cause { HasCause (D.faults desk.old) (D.faults desk.new) result }
+{
+    let total = weights.total();
+    print_count(b"objects ", weights.n() as u32, desk, room)?;
+    print_number(b"value ", value, desk, room)?;
+    print_number(b"total ", total, desk, room)?;
+    print_linearity(value, total, desk, room)
 }
 
 /// Prints that a certificate is accepted, one `print_all` a line.

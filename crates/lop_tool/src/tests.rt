@@ -92,6 +92,41 @@ fn titles_tails_and_refusals(rt: HostRuntime) -> Result<(), Fail> {
     Ok(())
 }
 
+/// A desk with the sectors under `a` and an order under `o`.
+fn desk_with_order(alloc: Global, order: &[u8]) -> Result<MemoryDesk, Fail> {
+    let mut files = Vec::new(alloc);
+    let file = String::from_str(alloc, "a")?;
+    let order_file = String::from_str(alloc, "o")?;
+    files.push(NamedBytes::new(file, SECTORS.to_vec(alloc)?))?;
+    files.push(NamedBytes::new(order_file, order.to_vec(alloc)?))?;
+    Ok(MemoryDesk::new(alloc, files, Vec::new(alloc), 1000)?)
+}
+
+#[test]
+fn values_of_orders(rt: HostRuntime) -> Result<(), Fail> {
+    let alloc = rt.alloc();
+    let cases: [(&[u8], u8, &[u8]); 5] = [
+        (
+            b"3 2 1\n",
+            0,
+            b"objects 3\nvalue 6\ntotal 16\nlinearity 0.3750\n",
+        ),
+        (b"1 2 2\n", 3, b"refused order-repeated 2\n"),
+        (b"1 2\n", 3, b"refused order-length 2\n"),
+        (b"0 1 2\n", 3, b"refused order-range 0\n"),
+        (b"1 x\n", 3, b"refused order-word 1\n"),
+    ];
+    for (order, ends, printed) in cases {
+        let mut memory = desk_with_order(alloc, order)?;
+        assert_eq!(rt;
+            status(alloc, &["value", "lolib", "a", "o"], &mut memory)?,
+            ends
+        );
+        assert_eq!(rt; memory.printed(), printed);
+    }
+    Ok(())
+}
+
 #[test]
 fn a_spent_budget(rt: HostRuntime) -> Result<(), Fail> {
     let alloc = rt.alloc();
@@ -107,7 +142,7 @@ fn a_spent_budget(rt: HostRuntime) -> Result<(), Fail> {
 #[test]
 fn words_that_are_no_command(rt: HostRuntime) -> Result<(), Fail> {
     let alloc = rt.alloc();
-    let cases: [&[&str]; 18] = [
+    let cases: [&[&str]; 20] = [
         &[],
         &["solve"],
         &["solve", "lolib"],
@@ -125,6 +160,8 @@ fn words_that_are_no_command(rt: HostRuntime) -> Result<(), Fail> {
         &["solve", "lolib", "a", "--nodes", "3", "--cert", "c"],
         &["check", "lolib", "a"],
         &["check", "lolib", "a", "-c"],
+        &["value", "lolib", "a"],
+        &["value", "lolib", "a", "o", "o"],
         &["--help"],
     ];
     for words in cases {

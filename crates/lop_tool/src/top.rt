@@ -5,13 +5,14 @@ ghost use Rattle.lop_desk.specs.Whole.{OnlyOpens};
 ghost use Rattle.lop_tool.specs.declared.reply.Refusal.TheVariants.{Words};
 ghost use Rattle.lop_tool.specs.Command.{command_of, HasBudget};
 ghost use Rattle.lop_tool.specs.Reply.{refusal_line, IsPrintable};
-ghost use Rattle.lop_tool.specs.Run.{AnswersCommand, StopCause, Ended, Faulted, ExactlyWhere, SolvesFile, AcceptsCertificate, IsRejected, PrintsRejection, IsRefused, PrintsRefusal, PrintsOnly, LeavesAtMost, LeavesAll, IsComplete};
+ghost use Rattle.lop_tool.specs.Run.{AnswersCommand, StopCause, Ended, Faulted, ExactlyWhere, SolvesFile, AcceptsCertificate, WeighsOrder, IsRejected, PrintsRejection, IsRefused, PrintsRefusal, PrintsOnly, LeavesAtMost, LeavesAll, IsComplete};
 ghost use Rattle.lop_tool.specs.Keeping.{CanBeKept};
 
 use crate::checking::check;
 use crate::deliver::deliver;
 use crate::reply::{Refusal, Reply, Stop, print_reply};
 use crate::solve::solve;
+use crate::weighing::weigh;
 use crate::words::{Command, WordsFault, read_words};
 use lop_desk::{Desk, TextRoom};
 use std::alloc::Global;
@@ -32,6 +33,11 @@ pub fn run<D: Desk>(alloc: Global, words: &[String], desk: &mut D) -> u8
     // What is accepted bounds every order of the file.
     ensures checks { let command = command_of (map (λ s. string_bytes s) words.now) in
         IfSome (D.told desk.old) (λ w. AcceptsCertificate command w (D.told desk.old) (D.told desk.new) result) }
+
+    // What `value` prints is the weight of the order in the one file by the matrix of the other.
+    ensures values { let command = command_of (map (λ s. string_bytes s) words.now) in
+        IfSome (D.told desk.old) (λ w. WeighsOrder command w (D.told desk.old) (D.told desk.new) result) }
+
     ensures rejects { let command = command_of (map (λ s. string_bytes s) words.now) in
         IfSome (D.told desk.old) (λ w. ExactlyWhere result 1 (IsRejected command w) (Faulted command (D.told desk.old) (D.faults desk.old) (D.faults desk.new))) }
     ensures rejection_line { let command = command_of (map (λ s. string_bytes s) words.now) in
@@ -119,5 +125,6 @@ fn decide<D: Desk>(alloc: Global, command: &Command, desk: &mut D) -> Result<Rep
     match command {
         Command::Solve { file, nodes, cert } => solve(alloc, file.text(), *nodes, cert, desk),
         Command::Check { file, cert } => check(alloc, file.text(), cert.text(), desk),
+        Command::Value { file, order_file } => weigh(alloc, file.text(), order_file.text(), desk),
     }
 }

@@ -2,7 +2,7 @@
 ghost use Rattle.std.specs.Prelude.{◌≡◌, Some, true, false, map, IfOk, IfErr, MatchOption};
 ghost use Rattle.std.specs.String.{string_bytes};
 ghost use Rattle.lop_desk.specs.Number.{digits_value};
-ghost use Rattle.lop_tool.specs.Command.{command_of, solve_command, option_command, check_command, with_certificate, with_budget, is_name_word, is_budget};
+ghost use Rattle.lop_tool.specs.Command.{command_of, verb_command, solve_command, option_command, check_command, value_command, with_certificate, with_budget, is_name_word, is_budget};
 ghost use Rattle.lop_tool.specs.WordsFault.{IsWordsFault, IsNameFault};
 
 use lop_desk::plain_number;
@@ -47,6 +47,11 @@ pub enum Command {
         file: NameWord,
         cert: NameWord,
     },
+    /// Weigh the order of the one file by the other's matrix.
+    Value {
+        file: NameWord,
+        order_file: NameWord,
+    },
 }
 
 /// How many nodes may be evaluated where the words don't say.
@@ -74,10 +79,24 @@ pub fn read_words(alloc: Global, words: &[String]) -> Result<Command, WordsFault
         return Err(WordsFault::Usage);
     }
     let file = name_word(alloc, file.as_str())?;
-    if verb.as_str() == "solve" {
+    verb_words(alloc, verb.as_str(), file, words)
+}
+
+fn verb_words(
+    alloc: Global,
+    verb: &str,
+    file: NameWord,
+    words: &[String],
+) -> Result<Command, WordsFault>
+    ensures command { IfOk result (λ command. verb_command verb.now file (map (λ s. string_bytes s) words.now) ≡ Some command) }
+    ensures fault { IfErr result (IsWordsFault (verb_command verb.now file (map (λ s. string_bytes s) words.now))) }
+{
+    if verb == "solve" {
         solve_words(alloc, file, words)
-    } else if verb.as_str() == "check" {
+    } else if verb == "check" {
         check_words(alloc, file, words)
+    } else if verb == "value" {
+        value_words(alloc, file, words)
     } else {
         Err(WordsFault::Usage)
     }
@@ -167,6 +186,19 @@ fn check_words(alloc: Global, file: NameWord, words: &[String]) -> Result<Comman
         [cert] => {
             let cert = name_word(alloc, cert.as_str())?;
             Ok(Command::Check { file, cert })
+        }
+        _ => Err(WordsFault::Usage),
+    }
+}
+
+fn value_words(alloc: Global, file: NameWord, words: &[String]) -> Result<Command, WordsFault>
+    ensures command { IfOk result (λ command. value_command file (map (λ s. string_bytes s) words.now) ≡ Some command) }
+    ensures fault { IfErr result (IsWordsFault (value_command file (map (λ s. string_bytes s) words.now))) }
+{
+    match words {
+        [order_file] => {
+            let order_file = name_word(alloc, order_file.as_str())?;
+            Ok(Command::Value { file, order_file })
         }
         _ => Err(WordsFault::Usage),
     }

@@ -1,5 +1,5 @@
 -- Small entries are weights.
-use Rattle.std.proofs.Common.{◌≡◌, ℕ, zero, suc, ◌+◌, ◌*◌, ◌%◌, ◌^◌, ◌<◌, ◌≤◌, Bool, true, false, ◌==◌, cond, List, [], get_or, unsigned_abs, ℤ, pos, ◌+ℤ◌, ◌≤ℤ◌, zero-add, sym, ◌∙◌, ap, arith}
+use Rattle.std.proofs.Common.{◌≡◌, ℕ, zero, suc, ◌+◌, ◌*◌, ◌%◌, ◌^◌, ◌<◌, ◌≤◌, Bool, true, false, ◌==◌, cond, List, [], get_or, unsigned_abs, ℤ, pos, ◌+ℤ◌, ◌≤ℤ◌, zero-add, sym, ◌∙◌, ap, arith, nat_abs, negsuc, refl}
 use Rattle.std.proofs.lemmas.Int.{ints}
 use Rattle.std.proofs.lemmas.List.FromFn.{get_or-map-range_with_len}
 use Rattle.std.proofs.Math.Nat.{suc-mul}
@@ -10,6 +10,7 @@ use Rattle.lop_model.specs.declared.weights.WeightsFault.{WeightsFault}
 use Rattle.lop_model.specs.declared.weights.WeightsFault.TheVariants.{Size, TooHeavy}
 use Rattle.lop_model.proofs.SumLemmas.{sum_below-le}
 use Rattle.lop_gen.specs.Generated.{word_at, entries_before, generated_entry, generated_row, generated_matrix}
+use Rattle.lop_gen.specs.Text.{HasNarrowDiagonal}
 
 sum_below-constant : (n c : ℕ) → sum_below n (λ _. pos c) ≡ pos (n * c)
 sum_below-constant zero c = let none : 0 ≡ zero * c = omega arith in ap pos none
@@ -51,3 +52,10 @@ generated-light seed n small = pair_sum-small n (pair_absolute (generated_matrix
 pub no_fault : (n : ℕ) (es : List ℤ) (e : WeightsFault) → IsShaped n es → absolute_total (matrix_of n es) ≤ℤ pos (10 ^ 18) → IsFault n es e → ⊥
 no_fault n es Size shaped light fault = fault shaped
 no_fault n es (TooHeavy sum) shaped light fault = omega (arith, ints, fault.1, fault.2)
+
+pub generated-narrow : (seed n : ℕ) → HasNarrowDiagonal (generated_matrix seed n)
+generated-narrow seed n = record { each = λ i below. omega (arith, small_entry seed n i i, ap unsigned_abs (entry-generated seed n i i below below), same_abs (entry (generated_matrix seed n) i i)) }
+  where
+    same_abs : (z : ℤ) → unsigned_abs z ≡ nat_abs z
+    same_abs (pos k) = refl
+    same_abs (negsuc k) = refl

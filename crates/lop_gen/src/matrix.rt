@@ -4,6 +4,7 @@ ghost use Rattle.rand_pcg.specs.Lcg.{advance, next};
 ghost use Rattle.rand_pcg.specs.Pcg.{multiplier_64, output_xsh_rr};
 ghost use Rattle.lop_gen.specs.Drawn.{drawn_row};
 ghost use Rattle.lop_gen.specs.Generated.{generated_matrix};
+ghost use Rattle.lop_gen.specs.Text.{HasNarrowDiagonal};
 
 use lop_model::Weights;
 use rand_core::SeedableRng;
@@ -16,7 +17,8 @@ use std::alloc::{AllocError, Global};
 pub fn generate(alloc: Global, seed: u64, n: u16) -> Result<Weights, AllocError>
     requires positive { 1 ≤ n }
     requires within_limit { n ≤ 512 }
-    ensures { IfOk result (λ weights. weights ≡ generated_matrix seed n) }
+    ensures weights { IfOk result (λ weights. weights ≡ generated_matrix seed n) }
+    ensures diagonal { IfOk result HasNarrowDiagonal }
 {
     let mut generator = Lcg64Xsh32::seed_from_u64(seed);
     let mut entries = Vec::with_capacity(alloc, n as usize * n as usize)?;

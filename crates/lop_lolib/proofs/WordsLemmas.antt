@@ -19,7 +19,7 @@ is_nonempty-some word some = grind (arith, nat_tests)
 filter-some : (word : List ℕ) (parts : List (List ℕ)) → 0 < length word → filter is_nonempty (word ∷ parts) ≡ word ∷ filter is_nonempty parts
 filter-some word parts some = ap (λ (t : Bool). cond t (word ∷ filter is_nonempty parts) (filter is_nonempty parts)) (is_nonempty-some word some)
 
-words_of-separator : (b : ℕ) (bytes : List ℕ) → is_separator b ≡ true → words_of (b ∷ bytes) ≡ words_of bytes
+pub words_of-separator : (b : ℕ) (bytes : List ℕ) → is_separator b ≡ true → words_of (b ∷ bytes) ≡ words_of bytes
 words_of-separator b bytes e = ap (λ (t : Bool). filter is_nonempty (cond t ([] ∷ slice_split is_separator bytes) (onto_first b (slice_split is_separator bytes)))) e
 
 -- the separators in front change nothing
@@ -49,13 +49,13 @@ words_of-word_ended bytes some more =
     ∙ ap (λ (ws : List (List ℕ)). word ∷ ws) (sym behind)
 
 -- a word alone
-words_of-word_alone : (bytes : List ℕ) → 0 < length bytes → position_or_len is_separator bytes ≡ length bytes → words_of bytes ≡ bytes ∷ []
+pub words_of-word_alone : (bytes : List ℕ) → 0 < length bytes → position_or_len is_separator bytes ≡ length bytes → words_of bytes ≡ bytes ∷ []
 words_of-word_alone bytes some all =
     let none : All (λ b. is_separator b ≡ false) bytes = λ k d within. fails_before_first is_separator bytes k d (omega arith) in
     ap (filter is_nonempty) (slice_split_none is_separator bytes none) ∙ filter-some bytes [] some
 
 -- a word in front, and what is behind it
-words_of-word : (bytes : List ℕ) (n : ℕ) → n ≡ position_or_len is_separator bytes → 0 < n → words_of bytes ≡ take n bytes ∷ words_of (drop n bytes)
+pub words_of-word : (bytes : List ℕ) (n : ℕ) → n ≡ position_or_len is_separator bytes → 0 < n → words_of bytes ≡ take n bytes ∷ words_of (drop n bytes)
 words_of-word bytes n is some =
     elim (cases_lt n (length bytes)) [
       | inl more ↦

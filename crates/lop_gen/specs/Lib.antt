@@ -1,0 +1,4 @@
+pub mod Generated
+pub mod Drawn
+pub mod Text
+pub mod EntryText

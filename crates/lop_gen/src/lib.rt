@@ -1,0 +1,10 @@
+//! Generated weights, and the LOLIB text of weights.
+#![tactic(auto)]
+
+mod matrix;
+#[cfg(test)]
+mod tests;
+mod text;
+
+pub use matrix::generate;
+pub use text::lolib_text;

@@ -1,0 +1,12 @@
+pub mod Text
+pub mod First
+pub mod Line
+pub mod Items
+pub mod Kind
+pub mod Names
+pub mod Profile
+pub mod Spans
+pub mod Refusal
+pub mod Reading
+pub mod Gathered
+pub mod Steps

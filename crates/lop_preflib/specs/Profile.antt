@@ -1,0 +1,36 @@
+-- A profile: the orders of voters.
+use Rattle.std.specs.Prelude.{◌≡◌, ◌≢◌, ℕ, ◌<◌, ◌≤◌, ◌^◌, List, [], length, map, slice_index, slice_index_or, sum, All}
+
+-- how many voters gave an order, and the objects that they rank, the best first
+pub record CountedOrder : Type 0 where
+  pub count : ℕ
+  pub ranked : List ℕ
+
+-- n, n names, and the orders
+pub record ProfileFields : Type 0 where
+  pub size : ℕ
+  pub names : List (List ℕ)
+  pub orders : List CountedOrder
+
+-- the sum of the counts
+abbrev pub votes : List CountedOrder → ℕ
+votes orders = sum (map (λ order. order.count) orders)
+
+-- the order at this index
+abbrev pub order_at : List CountedOrder → ℕ → CountedOrder
+order_at orders index = slice_index_or orders index (record { count = 0; ranked = [] })
+
+-- an order of some of n objects, none of them twice, that one voter or more gave
+pub record IsCounted (n : ℕ) (order : CountedOrder) : Type 0 where
+  pub given : 1 ≤ order.count
+  pub below : (p : ℕ) → p < length order.ranked → slice_index order.ranked p < n
+  pub distinct : (p q : ℕ) → p < q → q < length order.ranked → slice_index order.ranked p ≢ slice_index order.ranked q
+
+-- n from 1 to 512, n names, one order or more, and at most 10^18 voters
+pub record IsProfile (profile : ProfileFields) : Type 0 where
+  pub positive : 1 ≤ profile.size
+  pub within_limit : profile.size ≤ 512
+  pub named : length profile.names ≡ profile.size
+  pub some : 0 < length profile.orders
+  pub counted : All (IsCounted profile.size) profile.orders
+  pub few : votes profile.orders ≤ 10 ^ 18

@@ -1,0 +1,20 @@
+//! PrefLib files: the orders of voters as a text.
+#![tactic(auto)]
+
+mod gathered;
+mod items;
+mod line;
+mod lines;
+mod names;
+mod order;
+mod orders;
+mod preflib;
+mod profile;
+mod refusal;
+#[cfg(test)]
+mod tests;
+mod text;
+
+pub use preflib::read_preflib;
+pub use profile::Profile;
+pub use refusal::PrefRefusal;

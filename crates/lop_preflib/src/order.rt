@@ -1,0 +1,75 @@
+// Order lines.
+ghost use Rattle.std.specs.Prelude.{◌≡◌, ◌≤◌, ◌^◌, None, map, IfOk, IfErr, OnOk};
+ghost use Rattle.lop_preflib.specs.Line.{items_in, object_of};
+ghost use Rattle.std.specs.List.{list_any};
+ghost use Rattle.lop_preflib.specs.Refusal.{is_brace, items_refusal, order_refusal};
+ghost use Rattle.lop_preflib.specs.Reading.{order_of};
+ghost use Rattle.lop_preflib.specs.Steps.{IsStop, IsOrderRead};
+
+use crate::items::Items;
+use crate::refusal::PrefRefusal;
+use crate::text::{cut, number_up_to, trim};
+use memchr::memchr2;
+
+// The greatest count, and the greatest number of voters.
+const MOST: u64 = 1_000_000_000_000_000_000;
+
+fn has_brace(list: &[u8]) -> bool
+    ensures { result ≡ list_any is_brace list.now }
+{
+    match memchr2(b'{', b'}', list) {
+        Some(_) => true,
+        None => false,
+    }
+}
+
+/// Reads an order line: it answers the count, and leaves the objects in `ranked`. O(bytes).
+pub(crate) fn read_order(
+    line: &[u8],
+    n: u16,
+    voters: u64,
+    number: u64,
+    ranked: &mut Vec<u16>,
+) -> Result<u64, PrefRefusal>
+    requires within_limit { n ≤ 512 }
+    requires few { voters ≤ 10 ^ 18 }
+    ensures order { IfOk result (λ count. IsOrderRead line.now n voters number count ranked.new.items) }
+    ensures refusal { IfErr result (IsStop (order_refusal n voters number line.now)) }
+{
+    let Some((front, list)) = cut(b':', trim(line)) else {
+        return Err(PrefRefusal::BadLine(number));
+    };
+    let Some(count) = number_up_to(trim(front), MOST) else {
+        return Err(PrefRefusal::BadCount(number));
+    };
+    if has_brace(list) {
+        return Err(PrefRefusal::Ties(number));
+    }
+    read_items(list, n, number, ranked)?;
+    if voters + count > MOST {
+        return Err(PrefRefusal::TooMany(number));
+    }
+    Ok(count)
+}
+
+// Reads the items of an order.
+fn read_items(list: &[u8], n: u16, number: u64, ranked: &mut Vec<u16>) -> Result<(), PrefRefusal>
+    requires { n ≤ 512 }
+    ensures ranked { OnOk result (ranked.new.items ≡ map object_of (items_in list.now)) }
+    ensures good { OnOk result (items_refusal n number (items_in list.now) ≡ None) }
+    ensures refusal { IfErr result (IsStop (items_refusal n number (items_in list.now))) }
+{
+    ranked.clear();
+    let mut seen = [false; 513];
+    for item in (Items { rest: Some(list) }) {
+        let Some(value) = number_up_to(item, n as u64) else {
+            return Err(PrefRefusal::BadAlternative(number));
+        };
+        if seen[value as usize] {
+            return Err(PrefRefusal::Repeated(number));
+        }
+        seen[value as usize] = true;
+        ranked.push(value as u16 - 1)?;
+    }
+    Ok(())
+}

@@ -1,0 +1,5 @@
+pub mod PlaceLemmas
+pub mod CellLemmas
+pub mod PairLemmas
+pub mod VoteLemmas
+pub mod TableLemmas

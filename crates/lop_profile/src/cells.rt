@@ -1,0 +1,29 @@
+// Counts, added to the cells of a matrix.
+ghost use Rattle.std.specs.Prelude.{◌≡◌, ◌≢◌, ℕ, ◌+◌, ◌*◌, ◌<◌, ◌≤◌, ◌^◌, All, length, slice_index, if◌then◌else◌};
+ghost use Rattle.lop_profile.specs.Preference.{stands_in, ranks_before};
+ghost use Rattle.lop_profile.specs.Cells.{IsRanking};
+
+// Adds a count to each of these places of a row.
+fn add_row(row: &mut [u64], count: u64, places: &[u16])
+    requires places { IsRanking (length row.old) places.now }
+    requires small { All (λ cell. cell + count ≤ 10 ^ 18) row.old }
+    ensures { (j : ℕ) → j < length row.old → slice_index row.new j ≡ slice_index row.old j + (if stands_in places.now j then count else 0) }
+{
+    for place in places {
+        row[*place as usize] += count;
+    }
+}
+
+/// Adds a count to the cells of all pairs that an order ranks, in n rows of n cells. O(k²) for k objects.
+pub(crate) fn add_order(cells: &mut [u64], n: usize, count: u64, ranked: &[u16])
+    requires square { length cells.old ≡ n * n }
+    requires within_limit { n ≤ 512 }
+    requires ranked { IsRanking n ranked.now }
+    requires small { All (λ cell. cell + count ≤ 10 ^ 18) cells.old }
+    ensures { (i j : ℕ) → i < n → j < n → slice_index cells.new (i * n + j) ≡ slice_index cells.old (i * n + j) + (if ranks_before ranked.now i j then count else 0) }
+{
+    for (place, object) in ranked.iter().enumerate() {
+        let start = *object as usize * n;
+        add_row(&mut cells[start..start + n], count, &ranked[place + 1..]);
+    }
+}

@@ -33,18 +33,6 @@ pub record AreGathered (lines others : List (List ℕ)) (k : ℕ) (gathered : Ga
   pub counted : AreCounted gathered.size gathered.orders
   pub good : (j : ℕ) → j < k → refusal_at lines j ≡ None
 
-pub are_gathered-none : (lines : List (List ℕ)) (gathered : Gathered) → gathered.size ≡ None → ((i : ℕ) → name_at gathered.names i ≡ None) → gathered.orders ≡ [] → AreGathered lines lines 0 gathered
-are_gathered-none lines gathered size names orders = record {
-  present = omega arith;
-  left = refl;
-  size_is = size;
-  names_are = λ i low high. names i;
-  orders_are = orders;
-  known = subst IsSize (sym size) tt;
-  counted = subst (λ (os : List CountedOrder). AreCounted gathered.size os) (sym orders) (λ k d within. absurd (omega (arith, within)));
-  good = λ j low. absurd (omega (arith, low));
-}
-
 option_map-or_else : (a b : Option (List ℕ)) → option_map digits_value (or_else a b) ≡ or_else (option_map digits_value a) (option_map digits_value b)
 option_map-or_else (Some a) b = refl
 option_map-or_else None b = refl

@@ -1,10 +1,10 @@
 -- Counts, added to the cells of pairs.
-use Rattle.std.proofs.Common.{◌≡◌, ◌≢◌, ℕ, ◌+◌, ◌*◌, ◌<◌, ◌≤◌, ltb, Bool, true, false, ◌&&◌, cond, List, length, drop, get_or, inl, inr, refl, sym, ◌∙◌, ap, subst, arith}
+use Rattle.std.proofs.Common.{◌≡◌, ◌≢◌, ℕ, ◌+◌, ◌*◌, ◌<◌, ◌≤◌, ltb, Bool, true, false, ◌&&◌, cond, List, length, drop, get_or, inl, inr, sym, ◌∙◌, ap, subst, arith}
 use Rattle.std.proofs.lemmas.List.{places}
 use Rattle.std.proofs.lemmas.Nat.{row_fits}
 use Rattle.std.proofs.lemmas.Bool.{cases_eq, cases_lt}
 use Rattle.std.proofs.lemmas.Bool.Decides.{nat_tests}
-use Rattle.lop_model.specs.Order.{place_of, stands_before}
+use Rattle.lop_model.specs.Order.{place_of}
 use borrow.Rule.Slice.PartMut.{put_mid}
 use Rattle.lop_profile.specs.Preference.{stands_in, ranks_before}
 use Rattle.lop_profile.specs.Cells.{IsRanking}
@@ -87,12 +87,3 @@ module _ (before cells : List ℕ) (n count : ℕ) (ranked : List ℕ) (p : ℕ)
               elsewhere i j other low ∙ so_far i j under low
               ∙ sym (ap (λ (t : Bool). get_or before (i * n + j) 0 + cond t count 0) (other_place (place_of ranked i) p (ranks_before ranked i j) (place_of-other n ranked ranking p i within other)))
         ]
-
--- all objects
-pub pairs_added-all : (ranked : List ℕ) (i j : ℕ) → (ltb (place_of ranked i) (length ranked) && ranks_before ranked i j) ≡ ranks_before ranked i j
-pairs_added-all ranked i j = by (stands_in ranked i) (stands_in ranked j) (stands_before ranked i j)
-  where
-    by : (a b d : Bool) → (a && (a && b && d)) ≡ (a && b && d)
-    by true b d = refl
-    by false true d = refl
-    by false false d = refl

@@ -1,16 +1,15 @@
 -- The cells of the preference matrix.
-use Rattle.std.proofs.Common.{◌≡◌, ℕ, zero, suc, ◌+◌, ◌*◌, ◌/◌, ◌%◌, ◌<◌, ◌≤◌, ◌^◌, unsigned_abs, Bool, true, false, cond, List, [], length, take, drop, map, get_or, replicate, ℤ, pos, ◌+ℤ◌, ◌≤ℤ◌, ◌<ℤ◌, Ok, Err, sym, ◌∙◌, ap, subst, arith}
+use Rattle.std.proofs.Common.{◌≡◌, ℕ, zero, suc, ◌+◌, ◌*◌, ◌/◌, ◌%◌, ◌<◌, ◌≤◌, ◌^◌, unsigned_abs, Bool, true, false, cond, List, [], length, take, drop, map, get_or, ℤ, pos, ◌+ℤ◌, ◌≤ℤ◌, ◌<ℤ◌, Ok, Err, sym, ◌∙◌, ap, subst, arith}
 use Rattle.std.specs.Prelude.{int_lt}
 use Rattle.std.specs.List.{range_with_len, All}
-use Rattle.std.proofs.lemmas.List.{take_all, get_or_default, get_or-replicate, get_or-take, get_or-drop, get_or-map, length-take, length-drop, length-map, length-replicate, same_lists}
+use Rattle.std.proofs.lemmas.List.{take_all, get_or_default, get_or-take, get_or-drop, get_or-map, length-take, length-drop, length-map, same_lists}
 use Rattle.std.proofs.lemmas.List.FromFn.{get_or-map-range_with_len, length-map-range_with_len, fill_by_all}
-use Rattle.std.proofs.lemmas.Nat.{mul-add-lt, div_below, mod_below, div-add-mod'}
+use Rattle.std.proofs.lemmas.Nat.{div_below, mod_below, div-add-mod'}
 use Rattle.std.proofs.lemmas.Int.{ints}
 use Rattle.lop_model.specs.Matrix.{Matrix, matrix_of, entry, pair_total, pair_absolute, total, absolute_total, IsShaped}
 use Rattle.lop_model.proofs.SumLemmas.{pair_sum-same}
-use Rattle.lop_preflib.specs.Profile.{CountedOrder, ProfileFields, IsCounted, IsProfile, votes, order_at}
+use Rattle.lop_preflib.specs.Profile.{CountedOrder, ProfileFields, IsProfile, votes, order_at}
 use Rattle.lop_profile.specs.Preference.{ranks_before, preference, preference_matrix}
-use Rattle.lop_profile.specs.Cells.{IsRanking}
 use Rattle.lop_profile.specs.Reading.{profile_reading}
 use Rattle.lop_profile.specs.declared.profile.ProfileFault.TheVariants.{TooHeavy}
 use Rattle.lop_profile.proofs.VoteLemmas.{preference-more, preference-fits, preference-le}
@@ -20,18 +19,6 @@ use Rattle.lop_profile.proofs.PairLemmas.{row_le}
 pub record AreCells (n : ℕ) (orders : List CountedOrder) (m : ℕ) (cells : List ℕ) : Type 0 where
   pub square : length cells ≡ n * n
   pub preferences : (i j : ℕ) → i < n → j < n → get_or cells (i * n + j) 0 ≡ preference (take m orders) i j
-
-pub are_cells-none : (n : ℕ) (orders : List CountedOrder) (cells : List ℕ) → cells ≡ replicate (n * n) 0 → AreCells n orders 0 cells
-are_cells-none n orders cells is = record {
-  square = ap length is ∙ length-replicate (n * n) 0;
-  preferences = λ i j low under. ap (λ (l : List ℕ). get_or l (i * n + j) 0) is ∙ get_or-replicate (n * n) (i * n + j) 0 0 (mul-add-lt i n j n low under);
-}
-
--- an order of the profile is a ranking
-pub IsRanking-order : (n : ℕ) (orders : List CountedOrder) (m : ℕ) (ranked : List ℕ) → All (IsCounted n) orders → m < length orders → ranked ≡ (order_at orders m).ranked → IsRanking n ranked
-IsRanking-order n orders m ranked counted within is =
-    let order = counted m (record { count = 0; ranked = [] }) within in
-    subst (IsRanking n) (sym is) (record { below = order.below; distinct = order.distinct })
 
 some_row : (n k : ℕ) → k < n * n → 0 < n
 some_row zero k low = absurd (omega (arith, low))

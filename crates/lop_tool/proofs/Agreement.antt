@@ -13,9 +13,9 @@ use Rattle.lop_certtext.specs.Certificate.{certificate_text}
 use Rattle.lop_certtext.proofs.AcceptedText.{check_answer-certificate_text}
 use Rattle.lop_tool.specs.Input.{input_named, reading_of}
 use Rattle.lop_tool.specs.declared.words.Command.{Command}
-use Rattle.lop_tool.specs.declared.words.Command.TheVariants.{Solve, Check, Value}
+use Rattle.lop_tool.specs.declared.words.Command.TheVariants.{Solve, Check, Value, Gen}
 use Rattle.lop_desk.specs.Number.{digits_value}
-use Rattle.lop_tool.specs.Command.{command_of, verb_command, solve_command, check_command, value_command, with_certificate, with_budget, default_budget, is_name_word, is_budget}
+use Rattle.lop_tool.specs.Command.{command_of, file_command, gen_command, verb_command, solve_command, check_command, value_command, with_certificate, with_budget, default_budget, is_name_word, is_budget, is_seed, is_size}
 use Rattle.lop_tool.specs.Run.{certificate_of, Solves, Ended, EndsBy}
 use Rattle.lop_tool.specs.Both.{BothEnded, IsRoundTrip, Agree}
 use Rattle.lop_tool.proofs.Promises.{solves, completes}
@@ -73,12 +73,24 @@ file_apart : (b : Bool) (verb file : List ℕ) (words : List (List ℕ)) (f n : 
 file_apart true verb file words f n nodes is = verb_apart (bytes_eq verb (codes "solve")) (bytes_eq verb (codes "check")) (bytes_eq verb (codes "value")) file words f n nodes is
 file_apart false verb file words f n nodes is = absurd cc
 
+gen_kind : (b : Bool) (seed n : ℕ) (f : List ℕ) (nodes : ℕ) (name : Option (List ℕ)) → cond b (Some (Gen seed n)) None ≡ Some (Solve f nodes name) → ⊥
+gen_kind true seed n f nodes name is = cc
+gen_kind false seed n f nodes name is = cc
+
+gen_not_solve : (seed n : List ℕ) (words : List (List ℕ)) (f : List ℕ) (nodes : ℕ) (name : Option (List ℕ)) → gen_command seed n words ≡ Some (Solve f nodes name) → ⊥
+gen_not_solve seed n [] f nodes name is = gen_kind (is_seed seed && is_size n) (digits_value seed) (digits_value n) f nodes name is
+gen_not_solve seed n (word ∷ words) f nodes name is = cc
+
+words_apart : (b : Bool) (verb first second : List ℕ) (words : List (List ℕ)) (f n : List ℕ) (nodes : ℕ) → cond b (gen_command first second words) (file_command verb first second words) ≡ Some (Solve f nodes (Some n)) → bytes_eq n f ≡ false
+words_apart true verb first second words f n nodes is = absurd (gen_not_solve first second words f nodes (Some n) is)
+words_apart false verb first second words f n nodes is = file_apart (bytes_eq first (codes "lolib") && is_name_word second) verb second words f n nodes is
+
 -- a command with a certificate names it otherwise than its file
 pub names_apart : (words : List (List ℕ)) (f n : List ℕ) (nodes : ℕ) → command_of words ≡ Some (Solve f nodes (Some n)) → bytes_eq n f ≡ false
 names_apart [] f n nodes is = absurd cc
 names_apart (verb ∷ []) f n nodes is = absurd cc
 names_apart (verb ∷ format ∷ []) f n nodes is = absurd cc
-names_apart (verb ∷ format ∷ file ∷ words) f n nodes is = file_apart (bytes_eq format (codes "lolib") && is_name_word file) verb file words f n nodes is
+names_apart (verb ∷ first ∷ second ∷ words) f n nodes is = words_apart (bytes_eq verb (codes "gen")) verb first second words f n nodes is
 
 -- ---- the second run
 
@@ -112,10 +124,12 @@ trip_names : (first second : Option Command) → IsRoundTrip first second → (f
 trip_names None second trip = absurd trip
 trip_names (Some (Check file cert)) second trip = absurd trip
 trip_names (Some (Value file order_file)) second trip = absurd trip
+trip_names (Some (Gen seed n)) second trip = absurd trip
 trip_names (Some (Solve file nodes None)) second trip = absurd trip
 trip_names (Some (Solve file nodes (Some name))) None trip = absurd trip
 trip_names (Some (Solve file nodes (Some name))) (Some (Solve other more cert)) trip = absurd trip
 trip_names (Some (Solve file nodes (Some name))) (Some (Value other order_file)) trip = absurd trip
+trip_names (Some (Solve file nodes (Some name))) (Some (Gen seed n)) trip = absurd trip
 trip_names (Some (Solve file nodes (Some name))) (Some (Check other cert)) trip =
     (file, name, nodes, refl, ap (λ (f : List ℕ). Some (Check f cert)) trip.0 ∙ ap (λ (c : List ℕ). Some (Check file c)) trip.1)
 

@@ -5,8 +5,8 @@ use Rattle.std.specs.Prelude.{codes, nat_le}
 use Rattle.std.specs.Str.{bytes_eq}
 use Rattle.lop_desk.specs.Number.{digits_value}
 use Rattle.lop_tool.specs.declared.words.Command.{Command}
-use Rattle.lop_tool.specs.declared.words.Command.TheVariants.{Solve, Check, Value}
-use Rattle.lop_tool.specs.Command.{command_of, verb_command, solve_command, check_command, value_command, with_certificate, with_budget, default_budget, is_name_word, is_plain, is_budget, HasBudget}
+use Rattle.lop_tool.specs.declared.words.Command.TheVariants.{Solve, Check, Value, Gen}
+use Rattle.lop_tool.specs.Command.{command_of, file_command, gen_command, verb_command, solve_command, check_command, value_command, with_certificate, with_budget, default_budget, is_name_word, is_plain, is_budget, is_seed, is_size, HasBudget}
 
 some_budget : (c d : Command) → Some c ≡ Some d → HasBudget c → HasBudget d
 some_budget c d same has = let e : c ≡ d = cc in subst HasBudget e has
@@ -72,8 +72,32 @@ file_budget : (b : Bool) (verb file : List ℕ) (words : List (List ℕ)) (comma
 file_budget true verb file words command is = verb_budget verb file words command is
 file_budget false verb file words command is = absurd cc
 
+within_size : (a b c : Bool) (n : ℕ) → b ≡ nat_le 1 n → c ≡ nat_le n 512 → (a && (b && c)) ≡ true → (1 ≤ n) × (n ≤ 512)
+within_size false b c n low high is = absurd cc
+within_size true false c n low high is = absurd cc
+within_size true true false n low high is = absurd cc
+within_size true true true n low high is = (leb-true 1 n (sym low), leb-true n 512 (sym high))
+
+both_true : (a b : Bool) → (a && b) ≡ true → b ≡ true
+both_true true b is = is
+both_true false b is = absurd cc
+
+seed_budget : (b : Bool) (seed n : List ℕ) (command : Command) → b ≡ (is_seed seed && is_size n) → cond b (Some (Gen (digits_value seed) (digits_value n))) None ≡ Some command → HasBudget command
+seed_budget false seed n command test is = absurd cc
+seed_budget true seed n command test is =
+    some_budget (Gen (digits_value seed) (digits_value n)) command is
+    (within_size (is_plain n) (nat_le 1 (digits_value n)) (nat_le (digits_value n) 512) (digits_value n) refl refl (both_true (is_seed seed) (is_size n) (sym test)))
+
+gen_budget : (seed n : List ℕ) (words : List (List ℕ)) (command : Command) → gen_command seed n words ≡ Some command → HasBudget command
+gen_budget seed n [] command is = seed_budget (is_seed seed && is_size n) seed n command refl is
+gen_budget seed n (word ∷ words) command is = absurd cc
+
+words_budget : (b : Bool) (verb first second : List ℕ) (words : List (List ℕ)) (command : Command) → cond b (gen_command first second words) (file_command verb first second words) ≡ Some command → HasBudget command
+words_budget true verb first second words command is = gen_budget first second words command is
+words_budget false verb first second words command is = file_budget (bytes_eq first (codes "lolib") && is_name_word second) verb second words command is
+
 pub HasBudget-command : (words : List (List ℕ)) (command : Command) → command_of words ≡ Some command → HasBudget command
 HasBudget-command [] command is = absurd cc
 HasBudget-command (verb ∷ []) command is = absurd cc
-HasBudget-command (verb ∷ format ∷ []) command is = absurd cc
-HasBudget-command (verb ∷ format ∷ file ∷ words) command is = file_budget (bytes_eq format (codes "lolib") && is_name_word file) verb file words command is
+HasBudget-command (verb ∷ first ∷ []) command is = absurd cc
+HasBudget-command (verb ∷ first ∷ second ∷ words) command is = words_budget (bytes_eq verb (codes "gen")) verb first second words command is

@@ -8,7 +8,7 @@ use Rattle.lop_certtext.specs.Answer.{CheckAnswer, too_long, check_answer}
 use Rattle.lop_tool.specs.declared.reply.Outcome.{Outcome}
 use Rattle.lop_tool.specs.declared.reply.Refusal.TheVariants.{Words, Input, Order, LongCertificate}
 use Rattle.lop_tool.specs.declared.reply.Reply.{Reply}
-use Rattle.lop_tool.specs.declared.reply.Reply.TheVariants.{Refused, Solved, Checked, Valued}
+use Rattle.lop_tool.specs.declared.reply.Reply.TheVariants.{Refused, Solved, Checked, Valued, Generated}
 use Rattle.lop_tool.specs.Input.{input_named}
 use Rattle.lop_tool.specs.Run.{AnswersCheck, IsChecked, IsBounded, answer_of}
 use Rattle.lop_tool.specs.CheckSteps.{ChecksBytes, ChecksNamed, GivesAnswer}
@@ -49,6 +49,7 @@ ChecksNamed-opened C name (Some w) (Some v) (Refused LongCertificate) is there c
 ChecksNamed-opened C name old new (Refused (Input refusal)) is there checks = checks
 ChecksNamed-opened C name old new (Refused Words) is there checks = checks
 ChecksNamed-opened C name old new (Solved x) is there checks = checks
+ChecksNamed-opened C name old new (Generated x) is there checks = checks
 ChecksNamed-opened C name old new (Valued x) is there checks = checks
 ChecksNamed-opened C name old new (Refused (Order refusal)) is there checks = checks
 
@@ -79,6 +80,7 @@ AnswersCheck-named C file cert (Some w) (Some v) (Refused LongCertificate) opens
 AnswersCheck-named C file cert old mid (Refused (Input refusal)) opens input checks = absurd checks
 AnswersCheck-named C file cert old mid (Refused Words) opens input checks = checks
 AnswersCheck-named C file cert old mid (Solved x) opens input checks = checks
+AnswersCheck-named C file cert old mid (Generated x) opens input checks = checks
 AnswersCheck-named C file cert old mid (Valued x) opens input checks = checks
 AnswersCheck-named C file cert old mid (Refused (Order refusal)) opens input checks = checks
 

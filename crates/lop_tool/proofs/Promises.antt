@@ -2,7 +2,7 @@
 use Rattle.std.proofs.Common.{◌≡◌, ◌⊎◌, ℕ, ◌^◌, ◌<◌, Bool, true, false, cond, List, [], Option, None, Some, IfSome, Result, Ok, Err, ℤ, pos, negsuc, neg_ℤ, ◌≤ℤ◌, inl, inr, refl, sym, ◌∙◌, ap, subst, arith}
 use Rattle.std.specs.Prelude.{nat_abs}
 use Rattle.std.proofs.lemmas.Int.{ints}
-use Rattle.lop_desk.specs.World.{World, file_named}
+use Rattle.lop_desk.specs.World.{World, file_named, with_printed}
 use Rattle.lop_desk.specs.Causes.{Rose}
 use Rattle.lop_desk.specs.Desk.{IsMissing}
 use Rattle.lop_model.specs.Matrix.{Matrix}
@@ -12,7 +12,7 @@ use Rattle.lop_certtext.specs.declared.reason.Reason.{Reason}
 use Rattle.lop_certtext.specs.Certificate.{IsTreeCertificate}
 use Rattle.lop_certtext.specs.Answer.{CheckAnswer, accepted, rejected, too_long, check_answer}
 use Rattle.lop_tool.specs.declared.words.Command.{Command}
-use Rattle.lop_tool.specs.declared.words.Command.TheVariants.{Solve, Check, Value}
+use Rattle.lop_tool.specs.declared.words.Command.TheVariants.{Solve, Check, Value, Gen}
 use Rattle.lop_tool.specs.declared.reply.InputRefusal.{InputRefusal}
 use Rattle.lop_tool.specs.declared.reply.OrderFileRefusal.{OrderFileRefusal}
 use Rattle.lop_tool.specs.declared.reply.Refusal.{Refusal}
@@ -21,11 +21,11 @@ use Rattle.lop_tool.specs.declared.reply.Solution.{Solution}
 use Rattle.lop_tool.specs.declared.reply.Outcome.{Outcome}
 use Rattle.lop_tool.specs.declared.reply.Outcome.TheVariants.{Accepted, Rejected}
 use Rattle.lop_tool.specs.declared.reply.Reply.{Reply}
-use Rattle.lop_tool.specs.declared.reply.Reply.TheVariants.{Refused, Solved, Checked, Valued}
-use Rattle.lop_tool.specs.AnswerText.{is_optimal}
+use Rattle.lop_tool.specs.declared.reply.Reply.TheVariants.{Refused, Solved, Checked, Valued, Generated}
+use Rattle.lop_tool.specs.AnswerText.{is_optimal, gen_text}
 use Rattle.lop_tool.specs.Input.{input_named, reading_of, order_named, order_reading_of}
 use Rattle.lop_tool.specs.Reply.{IsSolution, reply_status, outcome_status, outcome_text, refusal_line}
-use Rattle.lop_tool.specs.Run.{IsSolved, Ended, replied, cut_off, faulted, lacked, Answers, Faulted, PrintsOnly, IsChecked, IsBounded, IsRejection, IsRejected, IsRefused, PrintsRejection, PrintsRefusal, answer_of, certificate_of, ExactlyWhere, SolvesFile, AcceptsCertificate, Accepts, EndsBy, IsComplete, Refuses, input_file, WeighsOrder, Weighs, IsWeighedOrder, IsRefusedOrder}
+use Rattle.lop_tool.specs.Run.{settled, IsSolved, Ended, replied, cut_off, faulted, lacked, Answers, Faulted, PrintsOnly, IsChecked, IsBounded, IsRejection, IsRejected, IsRefused, PrintsRejection, PrintsRefusal, answer_of, certificate_of, ExactlyWhere, SolvesFile, AcceptsCertificate, Accepts, EndsBy, IsComplete, Refuses, input_file, input_at, WeighsOrder, Weighs, GeneratesWeights, Generates, IsGenerated, IsWeighedOrder, IsRefusedOrder}
 
 -- ---- statuses
 
@@ -113,6 +113,7 @@ solves command None new before now status ended = tt
 solves None (Some w) new before now status ended = tt
 solves (Some (Check file cert)) (Some w) new before now status ended = tt
 solves (Some (Value file order_file)) (Some w) new before now status ended = tt
+solves (Some (Gen seed n)) (Some w) new before now status ended = tt
 solves (Some (Solve file nodes cert)) (Some w) new before now status (replied (Solved x) answers is left) = λ _. record {
   solved = x;
   accepted_file = answers.1;
@@ -123,6 +124,7 @@ solves (Some (Solve file nodes cert)) (Some w) new before now status (replied (S
 }
 solves (Some (Solve file nodes cert)) (Some w) new before now status (replied (Checked x) answers is left) = λ _. absurd answers
 solves (Some (Solve file nodes cert)) (Some w) new before now status (replied (Valued x) answers is left) = λ _. absurd answers
+solves (Some (Solve file nodes cert)) (Some w) new before now status (replied (Generated x) answers is left) = λ _. absurd answers
 solves (Some (Solve file nodes cert)) (Some w) new before now status (replied (Refused (Order r)) answers is left) = λ _. absurd answers
 solves (Some (Solve file nodes cert)) (Some w) new before now status (replied (Refused Words) answers is left) = λ _. absurd answers
 solves (Some (Solve file nodes cert)) (Some w) new before now status (replied (Refused LongCertificate) answers is left) = λ _. absurd answers
@@ -136,9 +138,11 @@ checks command None new before now status ended = tt
 checks None (Some w) new before now status ended = tt
 checks (Some (Solve file nodes cert)) (Some w) new before now status ended = tt
 checks (Some (Value file order_file)) (Some w) new before now status ended = tt
+checks (Some (Gen seed n)) (Some w) new before now status ended = tt
 checks (Some (Check file cert)) (Some w) new before now status (replied (Checked x) answers is left) = accepts_by file cert w (Some w) new status x.weights x.outcome answers.0 answers.1 is left
 checks (Some (Check file cert)) (Some w) new before now status (replied (Solved x) answers is left) = λ _. absurd answers
 checks (Some (Check file cert)) (Some w) new before now status (replied (Valued x) answers is left) = λ _. absurd answers
+checks (Some (Check file cert)) (Some w) new before now status (replied (Generated x) answers is left) = λ _. absurd answers
 checks (Some (Check file cert)) (Some w) new before now status (replied (Refused (Order r)) answers is left) = λ _. absurd answers
 checks (Some (Check file cert)) (Some w) new before now status (replied (Refused Words) answers is left) = λ _. absurd answers
 checks (Some (Check file cert)) (Some w) new before now status (replied (Refused LongCertificate) answers is left) = λ ends. absurd (not_solved status (omega arith) (omega arith) ends)
@@ -152,8 +156,10 @@ values command None new before now status ended = tt
 values None (Some w) new before now status ended = tt
 values (Some (Solve file nodes cert)) (Some w) new before now status ended = tt
 values (Some (Check file cert)) (Some w) new before now status ended = tt
+values (Some (Gen seed n)) (Some w) new before now status ended = tt
 values (Some (Value file order_file)) (Some w) new before now status (replied (Valued x) answers is left) = λ _. record { weights = x.weights; value = x.value; weighed = answers; status_is = is; text = left }
 values (Some (Value file order_file)) (Some w) new before now status (replied (Solved x) answers is left) = λ _. absurd answers
+values (Some (Value file order_file)) (Some w) new before now status (replied (Generated x) answers is left) = λ _. absurd answers
 values (Some (Value file order_file)) (Some w) new before now status (replied (Checked x) answers is left) = λ _. absurd answers
 values (Some (Value file order_file)) (Some w) new before now status (replied (Refused Words) answers is left) = λ _. absurd answers
 values (Some (Value file order_file)) (Some w) new before now status (replied (Refused LongCertificate) answers is left) = λ _. absurd answers
@@ -163,6 +169,21 @@ values (Some (Value file order_file)) (Some w) new before now status (cut_off re
 values (Some (Value file order_file)) (Some w) new before now status (faulted is fault leaves) = λ ends. absurd (not_solved status (omega arith) (omega arith) ends)
 values (Some (Value file order_file)) (Some w) new before now status (lacked is leaves) = λ ends. absurd (not_solved status (omega arith) (omega arith) ends)
 
+pub generates : (command : Option Command) (old new : Option World) (before now status : ℕ) → Ended command old new before now status → IfSome old (λ w. GeneratesWeights command old new status)
+generates command None new before now status ended = tt
+generates None (Some w) new before now status ended = tt
+generates (Some (Solve file nodes cert)) (Some w) new before now status ended = tt
+generates (Some (Check file cert)) (Some w) new before now status ended = tt
+generates (Some (Value file order_file)) (Some w) new before now status ended = tt
+generates (Some (Gen seed n)) (Some w) new before now status (replied (Generated x) answers is left) = λ _. record { generated = x; is_generated = answers; status_is = is; text = left ∙ ap (λ (k : ℕ). with_printed (gen_text k x.weights x.answer.value x.answer.bound x.answer.nodes) (settled (Some w))) answers.seed_is }
+generates (Some (Gen seed n)) (Some w) new before now status (replied (Solved x) answers is left) = λ _. absurd answers
+generates (Some (Gen seed n)) (Some w) new before now status (replied (Checked x) answers is left) = λ _. absurd answers
+generates (Some (Gen seed n)) (Some w) new before now status (replied (Valued x) answers is left) = λ _. absurd answers
+generates (Some (Gen seed n)) (Some w) new before now status (replied (Refused r) answers is left) = λ _. absurd answers
+generates (Some (Gen seed n)) (Some w) new before now status (cut_off reply n is fault answers left) = λ ends. absurd (not_solved status (omega arith) (omega arith) ends)
+generates (Some (Gen seed n)) (Some w) new before now status (faulted is fault leaves) = λ ends. absurd (not_solved status (omega arith) (omega arith) ends)
+generates (Some (Gen seed n)) (Some w) new before now status (lacked is leaves) = λ ends. absurd (not_solved status (omega arith) (omega arith) ends)
+
 pub usage_line : (command : Option Command) (old new : Option World) (before now status : ℕ) → Ended command old new before now status → status ≡ 2 → PrintsOnly old new (refusal_line Words)
 usage_line command old new before now status (replied (Solved x) answers is left) two = absurd (solved_not (is_optimal x.answer.value x.answer.bound) status 2 is (omega arith) (omega arith) two)
 usage_line command old new before now status (replied (Checked x) answers is left) two = absurd (outcome_not x.outcome status 2 is (omega arith) (omega arith) two)
@@ -171,6 +192,7 @@ usage_line command old new before now status (replied (Refused LongCertificate) 
 usage_line command old new before now status (replied (Refused (Input r)) answers is left) two = absurd (omega arith)
 usage_line command old new before now status (replied (Refused (Order r)) answers is left) two = absurd (omega arith)
 usage_line command old new before now status (replied (Valued x) answers is left) two = absurd (omega arith)
+usage_line command old new before now status (replied (Generated x) answers is left) two = absurd (solved_not (is_optimal x.answer.value x.answer.bound) status 2 is (omega arith) (omega arith) two)
 usage_line command old new before now status (cut_off reply n is fault answers left) two = absurd (omega arith)
 usage_line command old new before now status (faulted is fault leaves) two = absurd (omega arith)
 usage_line command old new before now status (lacked is leaves) two = absurd (omega arith)
@@ -183,15 +205,24 @@ solve_not_one file nodes cert w (Refused LongCertificate) status answers is one 
 solve_not_one file nodes cert w (Refused (Input r)) status answers is one = omega arith
 solve_not_one file nodes cert w (Refused (Order r)) status answers is one = answers
 solve_not_one file nodes cert w (Valued x) status answers is one = answers
+solve_not_one file nodes cert w (Generated x) status answers is one = answers
 
 value_not_one : (file order_file : List ℕ) (w : World) (reply : Reply) (status : ℕ) → Answers (Some (Value file order_file)) (Some w) reply → status ≡ reply_status reply → status ≡ 1 → ⊥
 value_not_one file order_file w (Valued x) status answers is one = omega arith
 value_not_one file order_file w (Solved x) status answers is one = answers
+value_not_one file order_file w (Generated x) status answers is one = answers
 value_not_one file order_file w (Checked x) status answers is one = answers
 value_not_one file order_file w (Refused Words) status answers is one = answers
 value_not_one file order_file w (Refused LongCertificate) status answers is one = answers
 value_not_one file order_file w (Refused (Input r)) status answers is one = omega arith
 value_not_one file order_file w (Refused (Order r)) status answers is one = omega arith
+
+gen_not_one : (seed n : ℕ) (w : World) (reply : Reply) (status : ℕ) → Answers (Some (Gen seed n)) (Some w) reply → status ≡ reply_status reply → status ≡ 1 → ⊥
+gen_not_one seed n w (Generated x) status answers is one = solved_not (is_optimal x.answer.value x.answer.bound) status 1 is (omega arith) (omega arith) one
+gen_not_one seed n w (Valued x) status answers is one = answers
+gen_not_one seed n w (Solved x) status answers is one = answers
+gen_not_one seed n w (Checked x) status answers is one = answers
+gen_not_one seed n w (Refused r) status answers is one = answers
 
 words_not_one : (reply : Reply) (status : ℕ) → reply ≡ Refused Words → status ≡ reply_status reply → status ≡ 1 → ⊥
 words_not_one reply status answers is one = let two : status ≡ 2 = is ∙ ap reply_status answers in omega arith
@@ -203,10 +234,12 @@ rejection_line command (Some w) new before now status (faulted is fault leaves) 
 rejection_line command (Some w) new before now status (lacked is leaves) = λ one. absurd (omega arith)
 rejection_line None (Some w) new before now status (replied reply answers is left) = λ one. absurd (words_not_one reply status answers is one)
 rejection_line (Some (Solve file nodes cert)) (Some w) new before now status (replied reply answers is left) = λ one. absurd (solve_not_one file nodes cert w reply status answers is one)
+rejection_line (Some (Gen seed n)) (Some w) new before now status (replied reply answers is left) = λ one. absurd (gen_not_one seed n w reply status answers is one)
 rejection_line (Some (Value file order_file)) (Some w) new before now status (replied reply answers is left) = λ one. absurd (value_not_one file order_file w reply status answers is one)
 rejection_line (Some (Check file cert)) (Some w) new before now status (replied (Checked x) answers is left) = rejects_by file cert w (Some w) new status x.weights x.outcome answers.1 is left
 rejection_line (Some (Check file cert)) (Some w) new before now status (replied (Solved x) answers is left) = λ one. absurd answers
 rejection_line (Some (Check file cert)) (Some w) new before now status (replied (Valued x) answers is left) = λ one. absurd answers
+rejection_line (Some (Check file cert)) (Some w) new before now status (replied (Generated x) answers is left) = λ one. absurd answers
 rejection_line (Some (Check file cert)) (Some w) new before now status (replied (Refused (Order r)) answers is left) = λ one. absurd answers
 rejection_line (Some (Check file cert)) (Some w) new before now status (replied (Refused Words) answers is left) = λ one. absurd answers
 rejection_line (Some (Check file cert)) (Some w) new before now status (replied (Refused LongCertificate) answers is left) = λ one. absurd (omega arith)
@@ -224,6 +257,7 @@ rejected_reply : (file cert : List ℕ) (w : World) (reply : Reply) (line : ℕ)
 rejected_reply file cert w (Checked x) line reason answers r = rejected_status x.outcome line reason (same_answer file cert w x.weights r.weights (answer_of x.outcome) (rejected line reason) answers.1 r.checked)
 rejected_reply file cert w (Solved x) line reason answers r = absurd answers
 rejected_reply file cert w (Valued x) line reason answers r = absurd answers
+rejected_reply file cert w (Generated x) line reason answers r = absurd answers
 rejected_reply file cert w (Refused (Order e)) line reason answers r = absurd answers
 rejected_reply file cert w (Refused Words) line reason answers r = absurd answers
 rejected_reply file cert w (Refused LongCertificate) line reason answers r =
@@ -243,6 +277,7 @@ rejects command (Some w) new before now status ended = record {
     always None (inl r) rejection = absurd rejection.2
     always (Some (Solve file nodes cert)) (inl r) rejection = absurd rejection.2
     always (Some (Value file order_file)) (inl r) rejection = absurd rejection.2
+    always (Some (Gen seed n)) (inl r) rejection = absurd rejection.2
     always (Some (Check file cert)) (inl r) rejection = inl (r.2 ∙ rejected_reply file cert w r.0 rejection.0 rejection.1 r.1 rejection.2)
 
 pub refusal_line_of : (command : Option Command) (old new : Option World) (before now status : ℕ) → Ended command old new before now status → IfSome old (λ w. status ≡ 3 → PrintsRefusal command w old new)
@@ -254,15 +289,18 @@ refusal_line_of None (Some w) new before now status (replied reply answers is le
 refusal_line_of (Some (Solve file nodes cert)) (Some w) new before now status (replied (Solved x) answers is left) = λ three. absurd (solved_not (is_optimal x.answer.value x.answer.bound) status 3 is (omega arith) (omega arith) three)
 refusal_line_of (Some (Solve file nodes cert)) (Some w) new before now status (replied (Checked x) answers is left) = λ three. absurd answers
 refusal_line_of (Some (Solve file nodes cert)) (Some w) new before now status (replied (Valued x) answers is left) = λ three. absurd answers
+refusal_line_of (Some (Solve file nodes cert)) (Some w) new before now status (replied (Generated x) answers is left) = λ three. absurd answers
 refusal_line_of (Some (Solve file nodes cert)) (Some w) new before now status (replied (Refused (Order r)) answers is left) = λ three. absurd answers
 refusal_line_of (Some (Solve file nodes cert)) (Some w) new before now status (replied (Refused Words) answers is left) = λ three. absurd answers
 refusal_line_of (Some (Solve file nodes cert)) (Some w) new before now status (replied (Refused LongCertificate) answers is left) = λ three. absurd answers
 refusal_line_of (Some (Solve file nodes cert)) (Some w) new before now status (replied (Refused (Input r)) answers is left) = λ three. (Input r, answers, left)
 refusal_line_of (Some (Check file cert)) (Some w) new before now status (replied (Solved x) answers is left) = λ three. absurd answers
 refusal_line_of (Some (Check file cert)) (Some w) new before now status (replied (Valued x) answers is left) = λ three. absurd answers
+refusal_line_of (Some (Check file cert)) (Some w) new before now status (replied (Generated x) answers is left) = λ three. absurd answers
 refusal_line_of (Some (Check file cert)) (Some w) new before now status (replied (Refused (Order r)) answers is left) = λ three. absurd answers
 refusal_line_of (Some (Value file order_file)) (Some w) new before now status (replied (Valued x) answers is left) = λ three. absurd (omega arith)
 refusal_line_of (Some (Value file order_file)) (Some w) new before now status (replied (Solved x) answers is left) = λ three. absurd answers
+refusal_line_of (Some (Value file order_file)) (Some w) new before now status (replied (Generated x) answers is left) = λ three. absurd answers
 refusal_line_of (Some (Value file order_file)) (Some w) new before now status (replied (Checked x) answers is left) = λ three. absurd answers
 refusal_line_of (Some (Value file order_file)) (Some w) new before now status (replied (Refused Words) answers is left) = λ three. absurd answers
 refusal_line_of (Some (Value file order_file)) (Some w) new before now status (replied (Refused LongCertificate) answers is left) = λ three. absurd answers
@@ -272,26 +310,35 @@ refusal_line_of (Some (Check file cert)) (Some w) new before now status (replied
 refusal_line_of (Some (Check file cert)) (Some w) new before now status (replied (Refused Words) answers is left) = λ three. absurd answers
 refusal_line_of (Some (Check file cert)) (Some w) new before now status (replied (Refused LongCertificate) answers is left) = λ three. (LongCertificate, answers, left)
 refusal_line_of (Some (Check file cert)) (Some w) new before now status (replied (Refused (Input r)) answers is left) = λ three. (Input r, answers, left)
+refusal_line_of (Some (Gen seed n)) (Some w) new before now status (replied (Generated x) answers is left) = λ three. absurd (solved_not (is_optimal x.answer.value x.answer.bound) status 3 is (omega arith) (omega arith) three)
+refusal_line_of (Some (Gen seed n)) (Some w) new before now status (replied (Valued x) answers is left) = λ three. absurd answers
+refusal_line_of (Some (Gen seed n)) (Some w) new before now status (replied (Solved x) answers is left) = λ three. absurd answers
+refusal_line_of (Some (Gen seed n)) (Some w) new before now status (replied (Checked x) answers is left) = λ three. absurd answers
+refusal_line_of (Some (Gen seed n)) (Some w) new before now status (replied (Refused r) answers is left) = λ three. absurd answers
 
 -- the input is refused, so no reply has another status
-refused_input : (command : Command) (w : World) (reply : Reply) (e : InputRefusal) → Answers (Some command) (Some w) reply → input_named w.files (input_file command) ≡ Some (Err e) → reply_status reply ≡ 3
+refused_input : (command : Command) (w : World) (reply : Reply) (e : InputRefusal) → Answers (Some command) (Some w) reply → input_at (input_file command) w.files ≡ Some (Err e) → reply_status reply ≡ 3
 refused_input (Solve file nodes cert) w (Solved x) e answers is = absurd (cc (answers.1, is))
 refused_input (Solve file nodes cert) w (Checked x) e answers is = absurd answers
 refused_input (Solve file nodes cert) w (Refused Words) e answers is = absurd answers
 refused_input (Solve file nodes cert) w (Refused LongCertificate) e answers is = absurd answers
 refused_input (Solve file nodes cert) w (Refused (Input r)) e answers is = refl
 refused_input (Solve file nodes cert) w (Valued x) e answers is = absurd answers
+refused_input (Solve file nodes cert) w (Generated x) e answers is = absurd answers
 refused_input (Solve file nodes cert) w (Refused (Order r)) e answers is = absurd answers
 refused_input (Check file cert) w (Solved x) e answers is = absurd answers
 refused_input (Check file cert) w (Valued x) e answers is = absurd answers
+refused_input (Check file cert) w (Generated x) e answers is = absurd answers
 refused_input (Check file cert) w (Refused (Order r)) e answers is = absurd answers
 refused_input (Value file order_file) w (Valued x) e answers is = absurd (cc (answers.accepted_file, is))
 refused_input (Value file order_file) w (Solved x) e answers is = absurd answers
+refused_input (Value file order_file) w (Generated x) e answers is = absurd answers
 refused_input (Value file order_file) w (Checked x) e answers is = absurd answers
 refused_input (Value file order_file) w (Refused Words) e answers is = absurd answers
 refused_input (Value file order_file) w (Refused LongCertificate) e answers is = absurd answers
 refused_input (Value file order_file) w (Refused (Input r)) e answers is = refl
 refused_input (Value file order_file) w (Refused (Order r)) e answers is = refl
+refused_input (Gen seed n) w reply e answers is = absurd cc
 refused_input (Check file cert) w (Checked x) e answers is = absurd (cc (answers.1.accepted_file, is))
 refused_input (Check file cert) w (Refused Words) e answers is = absurd answers
 refused_input (Check file cert) w (Refused LongCertificate) e answers is = refl
@@ -302,6 +349,7 @@ long_reply : (file cert : List ℕ) (w : World) (reply : Reply) (C : Matrix) →
 long_reply file cert w (Checked x) C answers checked = absurd (not_long x.outcome (same_answer file cert w x.weights C (answer_of x.outcome) too_long answers.1 checked))
 long_reply file cert w (Solved x) C answers checked = absurd answers
 long_reply file cert w (Valued x) C answers checked = absurd answers
+long_reply file cert w (Generated x) C answers checked = absurd answers
 long_reply file cert w (Refused (Order r)) C answers checked = absurd answers
 long_reply file cert w (Refused Words) C answers checked = absurd answers
 long_reply file cert w (Refused LongCertificate) C answers checked = refl
@@ -318,6 +366,7 @@ same_order file order_file w C value e weighed refused =
 order_reply : (file order_file : List ℕ) (w : World) (reply : Reply) (e : OrderFileRefusal) → Answers (Some (Value file order_file)) (Some w) reply → IsRefusedOrder file order_file w e → reply_status reply ≡ 3
 order_reply file order_file w (Valued x) e answers refused = absurd (same_order file order_file w x.weights x.value e answers refused)
 order_reply file order_file w (Solved x) e answers refused = absurd answers
+order_reply file order_file w (Generated x) e answers refused = absurd answers
 order_reply file order_file w (Checked x) e answers refused = absurd answers
 order_reply file order_file w (Refused Words) e answers refused = absurd answers
 order_reply file order_file w (Refused LongCertificate) e answers refused = absurd answers
@@ -329,6 +378,8 @@ refused_reply command w reply Words answers refuses = absurd refuses
 refused_reply command w reply (Input e) answers refuses = refused_input command w reply e answers refuses
 refused_reply (Solve file nodes cert) w reply LongCertificate answers refuses = absurd refuses
 refused_reply (Value file order_file) w reply LongCertificate answers refuses = absurd refuses
+refused_reply (Gen seed n) w reply LongCertificate answers refuses = absurd refuses
+refused_reply (Gen seed n) w reply (Order e) answers refuses = absurd refuses
 refused_reply (Solve file nodes cert) w reply (Order e) answers refuses = absurd refuses
 refused_reply (Check file cert) w reply (Order e) answers refuses = absurd refuses
 refused_reply (Value file order_file) w reply (Order e) answers refuses = order_reply file order_file w reply e answers refuses
@@ -363,6 +414,7 @@ solve_ends : (file : List ℕ) (nodes : ℕ) (cert : Option (List ℕ)) (w : Wor
 solve_ends file nodes cert w C before now status input calm (inl (Solved x, answers, is)) = elim (solved_is (is_optimal x.answer.value x.answer.bound) status is) [ inl zero_is ↦ inl zero_is | inr six ↦ inr (inl six) ]
 solve_ends file nodes cert w C before now status input calm (inl (Checked x, answers, is)) = absurd answers
 solve_ends file nodes cert w C before now status input calm (inl (Valued x, answers, is)) = absurd answers
+solve_ends file nodes cert w C before now status input calm (inl (Generated x, answers, is)) = absurd answers
 solve_ends file nodes cert w C before now status input calm (inl (Refused (Order e), answers, is)) = absurd answers
 solve_ends file nodes cert w C before now status input calm (inl (Refused Words, answers, is)) = absurd answers
 solve_ends file nodes cert w C before now status input calm (inl (Refused LongCertificate, answers, is)) = absurd answers
@@ -385,6 +437,7 @@ check_ends file cert w C bytes before now status input there calm (inl (Refused 
     subst (λ (a : CheckAnswer). EndsBy a status) (same_answer file cert w answers.0 C too_long (check_answer C bytes) answers.1 (record { accepted_file = input; bytes = bytes; there = there; answer_is = refl })) (inl is)
 check_ends file cert w C bytes before now status input there calm (inl (Solved x, answers, is)) = absurd answers
 check_ends file cert w C bytes before now status input there calm (inl (Valued x, answers, is)) = absurd answers
+check_ends file cert w C bytes before now status input there calm (inl (Generated x, answers, is)) = absurd answers
 check_ends file cert w C bytes before now status input there calm (inl (Refused (Order e), answers, is)) = absurd answers
 check_ends file cert w C bytes before now status input there calm (inl (Refused Words, answers, is)) = absurd answers
 check_ends file cert w C bytes before now status input there calm (inl (Refused (Input e), answers, is)) = absurd (cc (answers, input))
@@ -406,6 +459,7 @@ value_ends : (file order_file : List ℕ) (w : World) (C : Matrix) (order : List
     → ((reply : Reply) × Answers (Some (Value file order_file)) (Some w) reply × (status ≡ reply_status reply)) ⊎ (status ≡ 5) ⊎ ((status ≡ 4) × Faulted (Some (Value file order_file)) (Some w) before now) → (status ≡ 0) ⊎ (status ≡ 5)
 value_ends file order_file w C order before now status input there calm (inl (Valued x, answers, is)) = inl is
 value_ends file order_file w C order before now status input there calm (inl (Solved x, answers, is)) = absurd answers
+value_ends file order_file w C order before now status input there calm (inl (Generated x, answers, is)) = absurd answers
 value_ends file order_file w C order before now status input there calm (inl (Checked x, answers, is)) = absurd answers
 value_ends file order_file w C order before now status input there calm (inl (Refused Words, answers, is)) = absurd answers
 value_ends file order_file w C order before now status input there calm (inl (Refused LongCertificate, answers, is)) = absurd answers
@@ -416,9 +470,22 @@ value_ends file order_file w C order before now status input there calm (inr (in
 value_ends file order_file w C order before now status input there calm (inr (inr (four, inl (inr missing)))) = absurd (not_missing_order C.size w order_file (Ok order) there missing)
 value_ends file order_file w C order before now status input there calm (inr (inr (four, inr rose))) = absurd (calm rose)
 
+gen_ends : (seed n : ℕ) (w : World) (before now status : ℕ) → (Rose before now → ⊥)
+    → ((reply : Reply) × Answers (Some (Gen seed n)) (Some w) reply × (status ≡ reply_status reply)) ⊎ (status ≡ 5) ⊎ ((status ≡ 4) × Faulted (Some (Gen seed n)) (Some w) before now) → (status ≡ 0) ⊎ (status ≡ 6) ⊎ (status ≡ 5)
+gen_ends seed n w before now status calm (inl (Generated x, answers, is)) = elim (solved_is (is_optimal x.answer.value x.answer.bound) status is) [ inl zero_is ↦ inl zero_is | inr six ↦ inr (inl six) ]
+gen_ends seed n w before now status calm (inl (Valued x, answers, is)) = absurd answers
+gen_ends seed n w before now status calm (inl (Solved x, answers, is)) = absurd answers
+gen_ends seed n w before now status calm (inl (Checked x, answers, is)) = absurd answers
+gen_ends seed n w before now status calm (inl (Refused r, answers, is)) = absurd answers
+gen_ends seed n w before now status calm (inr (inl five)) = inr (inr five)
+gen_ends seed n w before now status calm (inr (inr (four, inl (inl none)))) = absurd none
+gen_ends seed n w before now status calm (inr (inr (four, inl (inr none)))) = absurd none
+gen_ends seed n w before now status calm (inr (inr (four, inr rose))) = absurd (calm rose)
+
 pub completes : (command : Option Command) (old new : Option World) (before now status : ℕ) → Ended command old new before now status → IfSome old (λ w. IsComplete command w before now status)
 completes command None new before now status ended = tt
 completes None (Some w) new before now status ended = tt
 completes (Some (Solve file nodes cert)) (Some w) new before now status ended = λ C input calm. solve_ends file nodes cert w C before now status input calm (reply_or (Some (Solve file nodes cert)) (Some w) new before now status ended)
 completes (Some (Check file cert)) (Some w) new before now status ended = λ C bytes input there calm. check_ends file cert w C bytes before now status input there calm (reply_or (Some (Check file cert)) (Some w) new before now status ended)
 completes (Some (Value file order_file)) (Some w) new before now status ended = λ C order input there calm. value_ends file order_file w C order before now status input there calm (reply_or (Some (Value file order_file)) (Some w) new before now status ended)
+completes (Some (Gen seed n)) (Some w) new before now status ended = λ calm. gen_ends seed n w before now status calm (reply_or (Some (Gen seed n)) (Some w) new before now status ended)

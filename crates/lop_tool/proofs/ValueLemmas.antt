@@ -6,7 +6,7 @@ use Rattle.lop_model.specs.Matrix.{Matrix, weight}
 use Rattle.lop_tool.specs.declared.reply.OrderFileRefusal.{OrderFileRefusal}
 use Rattle.lop_tool.specs.declared.reply.Refusal.TheVariants.{Words, Input, Order, LongCertificate}
 use Rattle.lop_tool.specs.declared.reply.Reply.{Reply}
-use Rattle.lop_tool.specs.declared.reply.Reply.TheVariants.{Refused, Solved, Checked, Valued}
+use Rattle.lop_tool.specs.declared.reply.Reply.TheVariants.{Refused, Solved, Checked, Valued, Generated}
 use Rattle.lop_tool.specs.Input.{input_named, order_named, order_reading_of, order_file_reading}
 use Rattle.lop_tool.specs.Run.{AnswersValue, IsWeighedOrder, IsRefusedOrder}
 use Rattle.lop_tool.specs.ValueSteps.{HasWeight, WeighsNamed}
@@ -40,6 +40,7 @@ AnswersValue-named C file order_file old mid (Refused (Input refusal)) opens inp
 AnswersValue-named C file order_file old mid (Refused LongCertificate) opens input weighs = absurd weighs
 AnswersValue-named C file order_file old mid (Refused Words) opens input weighs = absurd weighs
 AnswersValue-named C file order_file old mid (Solved x) opens input weighs = absurd weighs
+AnswersValue-named C file order_file old mid (Generated x) opens input weighs = absurd weighs
 AnswersValue-named C file order_file old mid (Checked x) opens input weighs = absurd weighs
 
 -- the same for an answer that may be none

@@ -92,3 +92,13 @@ rejected_line line reason = codes "rejected line " ++ decimal line ++ codes " " 
 abbrev pub value_text : Matrix → ℤ → List ℕ
 value_text C value =
     number_line (codes "objects ") (pos C.size) ++ (number_line (codes "value ") value ++ (number_line (codes "total ") (total C) ++ linearity_line value (total C)))
+
+-- the numbers of a search
+abbrev pub bound_lines : ℕ → ℤ → ℤ → List ℕ
+bound_lines n value bound =
+    number_line (codes "objects ") (pos n) ++ (number_line (codes "value ") value ++ (number_line (codes "bound ") bound ++ status_line value bound))
+
+-- the seed, and how the search ended
+abbrev pub gen_text : ℕ → Matrix → ℤ → ℤ → ℕ → List ℕ
+gen_text seed C value bound nodes =
+    number_line (codes "seed ") (pos seed) ++ (bound_lines C.size value bound ++ (number_line (codes "nodes ") (pos nodes) ++ number_line (codes "total ") (total C)))

@@ -3,7 +3,7 @@ use Rattle.std.specs.Prelude.{◌≡◌, ◌⊎◌, ℕ, ◌≤◌, Option, None
 use Rattle.lop_desk.specs.World.{World}
 use Rattle.lop_desk.specs.Causes.{Rose}
 use Rattle.lop_tool.specs.declared.words.Command.{Command}
-use Rattle.lop_tool.specs.declared.words.Command.TheVariants.{Solve, Check, Value}
+use Rattle.lop_tool.specs.declared.words.Command.TheVariants.{Solve, Check, Value, Gen}
 use Rattle.lop_tool.specs.Run.{Ended}
 
 -- one run ended, and then the other, which began where the first left the world
@@ -20,10 +20,12 @@ abbrev pub IsRoundTrip : Option Command → Option Command → Type 0
 IsRoundTrip None second = ⊥
 IsRoundTrip (Some (Check file cert)) second = ⊥
 IsRoundTrip (Some (Value file order_file)) second = ⊥
+IsRoundTrip (Some (Gen seed n)) second = ⊥
 IsRoundTrip (Some (Solve file nodes None)) second = ⊥
 IsRoundTrip (Some (Solve file nodes (Some name))) None = ⊥
 IsRoundTrip (Some (Solve file nodes (Some name))) (Some (Solve other more cert)) = ⊥
 IsRoundTrip (Some (Solve file nodes (Some name))) (Some (Value other order_file)) = ⊥
+IsRoundTrip (Some (Solve file nodes (Some name))) (Some (Gen seed n)) = ⊥
 IsRoundTrip (Some (Solve file nodes (Some name))) (Some (Check other cert)) = (other ≡ file) × (cert ≡ name)
 
 -- where no call failed and the first ended with 0 or 6, the second ends with the same, or for want of memory

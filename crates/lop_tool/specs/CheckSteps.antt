@@ -5,7 +5,7 @@ use Rattle.lop_model.specs.Matrix.{Matrix}
 use Rattle.lop_certtext.specs.Answer.{CheckAnswer, too_long, check_answer}
 use Rattle.lop_tool.specs.declared.reply.Refusal.TheVariants.{Words, Input, Order, LongCertificate}
 use Rattle.lop_tool.specs.declared.reply.Reply.{Reply}
-use Rattle.lop_tool.specs.declared.reply.Reply.TheVariants.{Refused, Solved, Checked, Valued}
+use Rattle.lop_tool.specs.declared.reply.Reply.TheVariants.{Refused, Solved, Checked, Valued, Generated}
 use Rattle.lop_tool.specs.Run.{answer_of, IsBounded}
 
 -- the reply is the checker's answer for the bytes that are still to be read
@@ -15,6 +15,7 @@ ChecksBytes C told (Refused LongCertificate) = IfSome told (λ w. check_answer C
 ChecksBytes C told (Refused (Input refusal)) = ⊥
 ChecksBytes C told (Refused Words) = ⊥
 ChecksBytes C told (Solved x) = ⊥
+ChecksBytes C told (Generated x) = ⊥
 ChecksBytes C told (Valued x) = ⊥
 ChecksBytes C told (Refused (Order refusal)) = ⊥
 
@@ -31,5 +32,6 @@ ChecksNamed C name told (Refused LongCertificate) = IfSome told (λ w. GivesAnsw
 ChecksNamed C name told (Refused (Input refusal)) = ⊥
 ChecksNamed C name told (Refused Words) = ⊥
 ChecksNamed C name told (Solved x) = ⊥
+ChecksNamed C name told (Generated x) = ⊥
 ChecksNamed C name told (Valued x) = ⊥
 ChecksNamed C name told (Refused (Order refusal)) = ⊥

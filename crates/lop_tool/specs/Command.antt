@@ -1,9 +1,9 @@
 -- The command line.
-use Rattle.std.specs.Prelude.{ℕ, ◌≤◌, nat_le, Bool, true, false, not, ◌&&◌, ◌||◌, ◌==◌, List, [], ◌∷◌, codes, Option, None, Some, if◌then◌else◌, ⊤}
+use Rattle.std.specs.Prelude.{ℕ, ◌≤◌, ◌^◌, nat_le, nat_lt, Bool, true, false, not, ◌&&◌, ◌||◌, ◌==◌, List, [], ◌∷◌, codes, Option, None, Some, if◌then◌else◌, ⊤}
 use Rattle.std.specs.Str.{bytes_eq}
 use Rattle.lop_desk.specs.Number.{all_digits, digits_value}
 use Rattle.lop_tool.specs.declared.words.Command.{Command}
-use Rattle.lop_tool.specs.declared.words.Command.TheVariants.{Solve, Check, Value}
+use Rattle.lop_tool.specs.declared.words.Command.TheVariants.{Solve, Check, Value, Gen}
 
 -- a name word isn't empty and doesn't begin with `-`
 abbrev pub is_name_word : List ℕ → Bool
@@ -62,13 +62,31 @@ verb_command verb file words =
     if bytes_eq verb (codes "solve") then solve_command file words
     else (if bytes_eq verb (codes "check") then check_command file words else (if bytes_eq verb (codes "value") then value_command file words else None))
 
+-- a seed is a plain number of 64 bits
+abbrev pub is_seed : List ℕ → Bool
+is_seed word = is_plain word && nat_lt (digits_value word) (2 ^ 64)
+
+-- a number of objects is a plain number from 1 to 512
+abbrev pub is_size : List ℕ → Bool
+is_size word = is_plain word && (nat_le 1 (digits_value word) && nat_le (digits_value word) 512)
+
+-- behind `gen` stand a seed and a number of objects, and nothing else
+abbrev pub gen_command : List ℕ → List ℕ → List (List ℕ) → Option Command
+gen_command seed n [] = if is_seed seed && is_size n then Some (Gen (digits_value seed) (digits_value n)) else None
+gen_command seed n words = None
+
+-- behind the other verbs stand a format and FILE
+abbrev pub file_command : List ℕ → List ℕ → List ℕ → List (List ℕ) → Option Command
+file_command verb format file words = if bytes_eq format (codes "lolib") && is_name_word file then verb_command verb file words else None
+
 -- the command that the words after the program's name spell
 abbrev pub command_of : List (List ℕ) → Option Command
-command_of (verb ∷ format ∷ file ∷ words) = if bytes_eq format (codes "lolib") && is_name_word file then verb_command verb file words else None
+command_of (verb ∷ first ∷ second ∷ words) = if bytes_eq verb (codes "gen") then gen_command first second words else file_command verb first second words
 command_of words = None
 
--- the command's node budget is within its limits
+-- the command's node budget and number of objects are within their limits
 abbrev pub HasBudget : Command → Type 0
 HasBudget (Solve file nodes cert) = (1 ≤ nodes) × (nodes ≤ 1000000)
 HasBudget (Check file cert) = ⊤
 HasBudget (Value file order_file) = ⊤
+HasBudget (Gen seed n) = (1 ≤ n) × (n ≤ 512)

@@ -7,7 +7,7 @@ use Rattle.lop_certtext.specs.declared.word.CertWord.TheVariants.{Version, Objec
 use Rattle.lop_certtext.specs.Line.{line_text}
 use Rattle.lop_tool.specs.declared.reply.Solution.{Solution}
 use Rattle.lop_tool.specs.declared.reply.Reply.{Reply}
-use Rattle.lop_tool.specs.declared.reply.Reply.TheVariants.{Refused, Solved, Checked, Valued}
+use Rattle.lop_tool.specs.declared.reply.Reply.TheVariants.{Refused, Solved, Checked, Valued, Generated}
 use Rattle.lop_tool.specs.Run.{settled, with_file}
 
 -- a line with its LF
@@ -39,6 +39,7 @@ abbrev pub CanBeKept : Reply → Type 0
 CanBeKept (Solved x) = IsCertifiable x
 CanBeKept (Checked x) = Unit {0}
 CanBeKept (Valued x) = Unit {0}
+CanBeKept (Generated x) = Unit {0}
 CanBeKept (Refused refusal) = Unit {0}
 
 -- how a reply was delivered: whole, cut off by a fault, not at all for a fault, or not at all for want of memory

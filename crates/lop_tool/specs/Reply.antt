@@ -10,10 +10,10 @@ use Rattle.lop_tool.specs.declared.reply.Outcome.TheVariants.{Accepted, Rejected
 use Rattle.lop_tool.specs.declared.reply.Refusal.{Refusal}
 use Rattle.lop_tool.specs.declared.reply.Refusal.TheVariants.{Words, Input, Order, LongCertificate}
 use Rattle.lop_tool.specs.declared.reply.Reply.{Reply}
-use Rattle.lop_tool.specs.declared.reply.Reply.TheVariants.{Refused, Solved, Checked, Valued}
+use Rattle.lop_tool.specs.declared.reply.Reply.TheVariants.{Refused, Solved, Checked, Valued, Generated}
 use Rattle.lop_climb.specs.StartOrder.{IsBeckerOrder}
 use Rattle.lop_tool.specs.InputRefusal.{input_refusal_words, order_file_refusal_words}
-use Rattle.lop_tool.specs.AnswerText.{is_optimal, solve_text, accepted_text, rejected_line, value_text}
+use Rattle.lop_tool.specs.AnswerText.{is_optimal, solve_text, accepted_text, rejected_line, value_text, gen_text}
 
 abbrev pub refusal_words : Refusal → List ℕ
 refusal_words Words = codes "words"
@@ -51,12 +51,14 @@ reply_text (Refused refusal) = refusal_line refusal
 reply_text (Solved x) = solution_text x
 reply_text (Checked x) = outcome_text x.outcome
 reply_text (Valued x) = value_text x.weights x.value
+reply_text (Generated x) = gen_text x.seed x.weights x.answer.value x.answer.bound x.answer.nodes
 
 abbrev pub reply_status : Reply → ℕ
 reply_status (Refused refusal) = refusal_status refusal
 reply_status (Solved x) = solved_status x.answer.value x.answer.bound
 reply_status (Checked x) = outcome_status x.outcome
 reply_status (Valued x) = 0
+reply_status (Generated x) = solved_status x.answer.value x.answer.bound
 
 -- the order is the start order, the value its weight, the bound the pair bound, which no order's weight exceeds;
 -- a node is evaluated only where the two differ
@@ -88,3 +90,4 @@ IsPrintable (Refused refusal) = Unit {0}
 IsPrintable (Solved x) = (length x.order ≡ x.weights.size) × (x.answer.value ≤ℤ pos (2 ^ 63))
 IsPrintable (Checked x) = Unit {0}
 IsPrintable (Valued x) = x.value ≤ℤ pos (2 ^ 63)
+IsPrintable (Generated x) = Unit {0}

@@ -9,19 +9,21 @@ use Rattle.lop_check.specs.Verdict.{IsWeighed}
 use Rattle.lop_certtext.specs.Certificate.{Certificate, certificate_text, IsTreeCertificate}
 use Rattle.lop_certtext.specs.Answer.{CheckAnswer, accepted, rejected, too_long, check_answer}
 use Rattle.lop_tool.specs.declared.words.Command.{Command}
-use Rattle.lop_tool.specs.declared.words.Command.TheVariants.{Solve, Check, Value}
+use Rattle.lop_tool.specs.declared.words.Command.TheVariants.{Solve, Check, Value, Gen}
 use Rattle.lop_tool.specs.declared.reply.InputRefusal.{InputRefusal}
 use Rattle.lop_tool.specs.declared.reply.OrderFileRefusal.{OrderFileRefusal}
 use Rattle.lop_tool.specs.declared.reply.Refusal.{Refusal}
 use Rattle.lop_tool.specs.declared.reply.Refusal.TheVariants.{Words, Input, Order, LongCertificate}
+use Rattle.lop_gen.specs.Generated.{generated_matrix}
 use Rattle.lop_tool.specs.declared.reply.Solution.{Solution}
+use Rattle.lop_tool.specs.declared.reply.Generation.{Generation}
 use Rattle.lop_tool.specs.declared.reply.Outcome.{Outcome}
 use Rattle.lop_tool.specs.declared.reply.Outcome.TheVariants.{Accepted, Rejected}
 use Rattle.lop_tool.specs.declared.reply.Reply.{Reply}
-use Rattle.lop_tool.specs.declared.reply.Reply.TheVariants.{Refused, Solved, Checked, Valued}
+use Rattle.lop_tool.specs.declared.reply.Reply.TheVariants.{Refused, Solved, Checked, Valued, Generated}
 use Rattle.lop_tool.specs.declared.reply.Stop.{Stop}
 use Rattle.lop_tool.specs.declared.reply.Stop.TheVariants.{Fault, Memory}
-use Rattle.lop_tool.specs.AnswerText.{accepted_text, rejected_line, value_text}
+use Rattle.lop_tool.specs.AnswerText.{accepted_text, rejected_line, value_text, gen_text}
 use Rattle.lop_tool.specs.Input.{input_named, order_named}
 use Rattle.lop_tool.specs.Reply.{IsSolution, IsSearched, refusal_line, reply_text, reply_status, solved_status, solution_text}
 
@@ -38,26 +40,38 @@ abbrev pub LeavesAll : Option World → Option World → Type 0
 LeavesAll old new = settled new ≡ settled old
 
 -- the file of weights that a command reads
-abbrev pub input_file : Command → List ℕ
-input_file (Solve file nodes cert) = file
-input_file (Check file cert) = file
-input_file (Value file order_file) = file
+abbrev pub input_file : Command → Option (List ℕ)
+input_file (Solve file nodes cert) = Some file
+input_file (Check file cert) = Some file
+input_file (Value file order_file) = Some file
+input_file (Gen seed n) = None
+
+-- the input under a name, if there is one
+abbrev pub input_at : Option (List ℕ) → List NamedFile → Option (Result Matrix InputRefusal)
+input_at None files = None
+input_at (Some file) files = input_named files file
 
 -- the input of a command: none without a command, and where its file isn't there
 abbrev pub input_for : Option Command → List NamedFile → Option (Result Matrix InputRefusal)
 input_for None files = None
-input_for (Some command) files = input_named files (input_file command)
+input_for (Some command) files = input_at (input_file command) files
 
 -- the second file that a command reads, a certificate or an order, isn't there
 abbrev pub SecondMissing : Command → Option World → Type 0
 SecondMissing (Solve file nodes cert) old = ⊥
 SecondMissing (Check file cert) old = IsMissing old cert
 SecondMissing (Value file order_file) old = IsMissing old order_file
+SecondMissing (Gen seed n) old = ⊥
+
+-- the file under a name, if one is named, isn't there
+abbrev pub NameMissing : Option (List ℕ) → Option World → Type 0
+NameMissing None old = ⊥
+NameMissing (Some file) old = IsMissing old file
 
 -- a file that the command names for reading isn't there
 abbrev pub NamesMissing : Option Command → Option World → Type 0
 NamesMissing None old = ⊥
-NamesMissing (Some command) old = IsMissing old (input_file command) ⊎ SecondMissing command old
+NamesMissing (Some command) old = NameMissing (input_file command) old ⊎ SecondMissing command old
 
 -- what status 4 comes from
 abbrev pub Faulted : Option Command → Option World → ℕ → ℕ → Type 0
@@ -76,6 +90,7 @@ AnswersSolve file nodes cert old (Refused Words) = ⊥
 AnswersSolve file nodes cert old (Refused LongCertificate) = ⊥
 AnswersSolve file nodes cert old (Checked x) = ⊥
 AnswersSolve file nodes cert old (Valued x) = ⊥
+AnswersSolve file nodes cert old (Generated x) = ⊥
 AnswersSolve file nodes cert old (Refused (Order refusal)) = ⊥
 
 -- the file is accepted with C, and the checker's answer for the certificate is this one
@@ -103,6 +118,7 @@ AnswersCheck file cert old (Refused LongCertificate) = IfSome old (λ w. (C : Ma
 AnswersCheck file cert old (Refused Words) = ⊥
 AnswersCheck file cert old (Solved x) = ⊥
 AnswersCheck file cert old (Valued x) = ⊥
+AnswersCheck file cert old (Generated x) = ⊥
 AnswersCheck file cert old (Refused (Order refusal)) = ⊥
 
 -- the file is accepted with C and the other file with an order of C's objects, which has that weight
@@ -127,12 +143,29 @@ AnswersValue file order_file old (Refused LongCertificate) = ⊥
 AnswersValue file order_file old (Refused Words) = ⊥
 AnswersValue file order_file old (Solved x) = ⊥
 AnswersValue file order_file old (Checked x) = ⊥
+AnswersValue file order_file old (Generated x) = ⊥
+
+-- the weights are those that the seed gives, and the numbers those of a finished search of ten nodes at most
+pub record IsGenerated (seed n : ℕ) (x : Generation) : Type 0 where
+  pub seed_is : x.seed ≡ seed
+  pub weights_are : x.weights ≡ generated_matrix seed n
+  pub order : List ℕ
+  pub searched : IsSearched x.weights 10 order x.answer.value x.answer.bound x.answer.nodes
+
+-- the reply to `gen`: no file is read, so none is refused
+abbrev pub AnswersGen : ℕ → ℕ → Reply → Type 0
+AnswersGen seed n (Generated x) = IsGenerated seed n x
+AnswersGen seed n (Refused refusal) = ⊥
+AnswersGen seed n (Solved x) = ⊥
+AnswersGen seed n (Checked x) = ⊥
+AnswersGen seed n (Valued x) = ⊥
 
 -- the reply is the one to this command, and where files are told, to what they hold
 abbrev pub AnswersCommand : Command → Option World → Reply → Type 0
 AnswersCommand (Solve file nodes cert) old reply = AnswersSolve file nodes cert old reply
 AnswersCommand (Check file cert) old reply = AnswersCheck file cert old reply
 AnswersCommand (Value file order_file) old reply = AnswersValue file order_file old reply
+AnswersCommand (Gen seed n) old reply = AnswersGen seed n reply
 
 abbrev pub Answers : Option Command → Option World → Reply → Type 0
 Answers None old reply = reply ≡ Refused Words
@@ -158,12 +191,14 @@ abbrev pub cert_name : Command → Option (List ℕ)
 cert_name (Solve file nodes cert) = cert
 cert_name (Check file cert) = None
 cert_name (Value file order_file) = None
+cert_name (Gen seed n) = None
 
 -- the file that a reply leaves under this name
 abbrev pub reply_file : Option (List ℕ) → Reply → Option NamedFile
 reply_file name (Solved x) = certificate_file name x
 reply_file name (Checked x) = None
 reply_file name (Valued x) = None
+reply_file name (Generated x) = None
 reply_file name (Refused refusal) = None
 
 abbrev pub command_name : Option Command → Option (List ℕ)
@@ -209,6 +244,7 @@ abbrev pub SolvesFile : Option Command → World → Option World → Option Wor
 SolvesFile None w old new status = ⊤
 SolvesFile (Some (Check file cert)) w old new status = ⊤
 SolvesFile (Some (Value file order_file)) w old new status = ⊤
+SolvesFile (Some (Gen seed n)) w old new status = ⊤
 SolvesFile (Some (Solve file nodes cert)) w old new status = (status ≡ 0) ⊎ (status ≡ 6) → Solves file nodes cert w old new status
 
 -- the checker accepts the certificate, no order of the file weighs more than the bound, and both numbers were printed
@@ -227,6 +263,7 @@ abbrev pub AcceptsCertificate : Option Command → World → Option World → Op
 AcceptsCertificate None w old new status = ⊤
 AcceptsCertificate (Some (Solve file nodes cert)) w old new status = ⊤
 AcceptsCertificate (Some (Value file order_file)) w old new status = ⊤
+AcceptsCertificate (Some (Gen seed n)) w old new status = ⊤
 AcceptsCertificate (Some (Check file cert)) w old new status = (status ≡ 0) ⊎ (status ≡ 6) → Accepts file cert w old new status
 
 -- the order's weight in the file was printed
@@ -242,7 +279,23 @@ abbrev pub WeighsOrder : Option Command → World → Option World → Option Wo
 WeighsOrder None w old new status = ⊤
 WeighsOrder (Some (Solve file nodes cert)) w old new status = ⊤
 WeighsOrder (Some (Check file cert)) w old new status = ⊤
+WeighsOrder (Some (Gen seed n)) w old new status = ⊤
 WeighsOrder (Some (Value file order_file)) w old new status = (status ≡ 0) ⊎ (status ≡ 6) → Weighs file order_file w old new status
+
+-- the numbers of a finished search on the weights of the seed were printed
+pub record Generates (seed n : ℕ) (old new : Option World) (status : ℕ) : Type 0 where
+  pub generated : Generation
+  pub is_generated : IsGenerated seed n generated
+  pub status_is : status ≡ solved_status generated.answer.value generated.answer.bound
+  pub text : PrintsOnly old new (gen_text seed generated.weights generated.answer.value generated.answer.bound generated.answer.nodes)
+
+-- with status 0 or 6, `gen` searches the weights of its seed
+abbrev pub GeneratesWeights : Option Command → Option World → Option World → ℕ → Type 0
+GeneratesWeights None old new status = ⊤
+GeneratesWeights (Some (Solve file nodes cert)) old new status = ⊤
+GeneratesWeights (Some (Check file cert)) old new status = ⊤
+GeneratesWeights (Some (Value file order_file)) old new status = ⊤
+GeneratesWeights (Some (Gen seed n)) old new status = (status ≡ 0) ⊎ (status ≡ 6) → Generates seed n old new status
 
 -- the file of `check` is accepted, and the checker rejects the certificate
 pub record IsRejection (file cert : List ℕ) (w : World) (line : ℕ) (reason : Reason) : Type 0 where
@@ -253,6 +306,7 @@ abbrev pub Rejects : Option Command → World → ℕ → Reason → Type 0
 Rejects None w line reason = ⊥
 Rejects (Some (Solve file nodes cert)) w line reason = ⊥
 Rejects (Some (Value file order_file)) w line reason = ⊥
+Rejects (Some (Gen seed n)) w line reason = ⊥
 Rejects (Some (Check file cert)) w line reason = IsRejection file cert w line reason
 
 -- the certificate of the command is rejected at a line
@@ -268,6 +322,7 @@ abbrev pub HasLongCertificate : Option Command → World → Type 0
 HasLongCertificate None w = ⊥
 HasLongCertificate (Some (Solve file nodes cert)) w = ⊥
 HasLongCertificate (Some (Value file order_file)) w = ⊥
+HasLongCertificate (Some (Gen seed n)) w = ⊥
 HasLongCertificate (Some (Check file cert)) w = (C : Matrix) × IsChecked file cert w C too_long
 
 -- the file of `value` is accepted, and the order is refused for this
@@ -275,6 +330,7 @@ abbrev pub HasRefusedOrder : Option Command → World → OrderFileRefusal → T
 HasRefusedOrder None w refusal = ⊥
 HasRefusedOrder (Some (Solve file nodes cert)) w refusal = ⊥
 HasRefusedOrder (Some (Check file cert)) w refusal = ⊥
+HasRefusedOrder (Some (Gen seed n)) w refusal = ⊥
 HasRefusedOrder (Some (Value file order_file)) w refusal = IsRefusedOrder file order_file w refusal
 
 -- an input of the command is refused with this line
@@ -310,3 +366,4 @@ IsComplete (Some (Check file cert)) w before now status =
     (C : Matrix) (bytes : List ℕ) → input_named w.files file ≡ Some (Ok C) → file_named w.files cert ≡ Some bytes → ¬ (Rose before now) → EndsBy (check_answer C bytes) status
 IsComplete (Some (Value file order_file)) w before now status =
     (C : Matrix) (order : List ℕ) → input_named w.files file ≡ Some (Ok C) → order_named C.size w.files order_file ≡ Some (Ok order) → ¬ (Rose before now) → (status ≡ 0) ⊎ (status ≡ 5)
+IsComplete (Some (Gen seed n)) w before now status = ¬ (Rose before now) → (status ≡ 0) ⊎ (status ≡ 6) ⊎ (status ≡ 5)

@@ -5,7 +5,7 @@ use Rattle.lop_model.specs.Matrix.{Matrix, weight}
 use Rattle.lop_tool.specs.Input.{order_named}
 use Rattle.lop_tool.specs.declared.reply.Refusal.TheVariants.{Words, Input, Order, LongCertificate}
 use Rattle.lop_tool.specs.declared.reply.Reply.{Reply}
-use Rattle.lop_tool.specs.declared.reply.Reply.TheVariants.{Refused, Solved, Checked, Valued}
+use Rattle.lop_tool.specs.declared.reply.Reply.TheVariants.{Refused, Solved, Checked, Valued, Generated}
 
 -- the file under a name is accepted with an order of C's objects, which has that weight
 pub record HasWeight (C : Matrix) (name : List ℕ) (w : World) (value : ℤ) : Type 0 where
@@ -21,4 +21,5 @@ WeighsNamed C name told (Refused (Input refusal)) = ⊥
 WeighsNamed C name told (Refused LongCertificate) = ⊥
 WeighsNamed C name told (Refused Words) = ⊥
 WeighsNamed C name told (Solved x) = ⊥
+WeighsNamed C name told (Generated x) = ⊥
 WeighsNamed C name told (Checked x) = ⊥

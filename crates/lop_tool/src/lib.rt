@@ -7,6 +7,7 @@ mod certificate;
 mod checking;
 mod deliver;
 mod extension;
+mod generation;
 mod input;
 mod judge;
 mod refused;

@@ -5,7 +5,7 @@ ghost use Rattle.lop_desk.specs.Causes.{HasCause};
 ghost use Rattle.lop_tool.specs.Reply.{refusal_words, refusal_line, refusal_status, reply_text, reply_status, outcome_text, outcome_status, solved_status, IsPrintable};
 
 use crate::refused::{put_input_refusal, put_order_refusal};
-use crate::report::{Answer, print_accepted, print_answer, print_rejected, print_value};
+use crate::report::{Answer, print_accepted, print_answer, print_generated, print_rejected, print_value};
 use lop_check::Reason;
 use lop_desk::{Desk, DeskFailed, TextRoom, print_all};
 use lop_lolib::{LolibRefusal, OrderRefusal};
@@ -64,6 +64,14 @@ pub struct Valuation {
     pub value: i128,
 }
 
+/// What the weights that a seed gives come to.
+#[derive(Drop)]
+pub struct Generation {
+    pub seed: u64,
+    pub weights: Weights,
+    pub answer: Answer,
+}
+
 /// What a run replies.
 #[derive(Drop)]
 pub enum Reply {
@@ -71,6 +79,7 @@ pub enum Reply {
     Solved(Solution),
     Checked(CheckedCertificate),
     Valued(Valuation),
+    Generated(Generation),
 }
 
 /// Why a run has no reply.
@@ -134,6 +143,7 @@ impl Reply {
             Reply::Solved(solution) => solved_status(solution.answer.value, solution.answer.bound),
             Reply::Checked(checked) => checked.outcome.status(),
             Reply::Valued(_) => 0,
+            Reply::Generated(x) => solved_status(x.answer.value, x.answer.bound),
         }
     }
 }
@@ -153,6 +163,7 @@ pub fn print_reply<D: Desk>(
         Reply::Solved(x) => print_answer(&x.answer, &x.order, &x.weights, desk, room),
         Reply::Checked(x) => print_outcome(x.outcome, desk, room),
         Reply::Valued(x) => print_value(x.value, &x.weights, desk, room),
+        Reply::Generated(x) => print_generated(x.seed, &x.answer, &x.weights, desk, room),
     }
 }
 

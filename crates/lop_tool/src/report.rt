@@ -4,7 +4,7 @@ ghost use Rattle.std.specs.List.{flat_map};
 ghost use Rattle.lop_model.specs.Matrix.{total};
 ghost use Rattle.lop_desk.specs.Whole.{PrintsAll};
 ghost use Rattle.lop_desk.specs.Causes.{HasCause};
-ghost use Rattle.lop_tool.specs.AnswerText.{number_line, order_line, status_line, linearity_parts, linearity_text, linearity_line, four_digits, order_lines, figure_lines, solve_text, value_text, object_word, digit_code, accepted_text, check_status_line, rejected_line, reason_text, two_numbers};
+ghost use Rattle.lop_tool.specs.AnswerText.{number_line, order_line, status_line, linearity_parts, linearity_text, linearity_line, four_digits, order_lines, figure_lines, solve_text, value_text, gen_text, bound_lines, object_word, digit_code, accepted_text, check_status_line, rejected_line, reason_text, two_numbers};
 
 use itoa::Buffer;
 use lop_check::Reason;
@@ -90,6 +90,38 @@ pub fn print_value<D: Desk>(
     print_number(b"value ", value, desk, room)?;
     print_number(b"total ", total, desk, room)?;
     print_linearity(value, total, desk, room)
+}
+
+/// Prints what the weights of a seed come to, one `print_all` a line.
+pub fn print_generated<D: Desk>(
+    seed: u64,
+    answer: &Answer,
+    weights: &Weights,
+    desk: &mut D,
+    room: &mut TextRoom,
+) -> Result<(), DeskFailed>
+    ensures effect { PrintsAll (D.told desk.old) (D.told desk.new) (gen_text seed weights.now answer.now.value answer.now.bound answer.now.nodes) result }
+    ensures cause { HasCause (D.faults desk.old) (D.faults desk.new) result }
+{
+    print_number(b"seed ", i128::from(seed), desk, room)?;
+    print_bound_lines(weights.n(), answer, desk, room)?;
+    print_count(b"nodes ", answer.nodes, desk, room)?;
+    print_number(b"total ", weights.total(), desk, room)
+}
+
+fn print_bound_lines<D: Desk>(
+    n: u16,
+    answer: &Answer,
+    desk: &mut D,
+    room: &mut TextRoom,
+) -> Result<(), DeskFailed>
+    ensures effect { PrintsAll (D.told desk.old) (D.told desk.new) (bound_lines n answer.now.value answer.now.bound) result }
+    ensures cause { HasCause (D.faults desk.old) (D.faults desk.new) result }
+{
+    print_count(b"objects ", n as u32, desk, room)?;
+    print_number(b"value ", answer.value, desk, room)?;
+    print_number(b"bound ", answer.bound, desk, room)?;
+    print_status(answer, desk)
 }
 
 /// Prints that a certificate is accepted, one `print_all` a line.

@@ -75,7 +75,7 @@ fn solution(
 }
 
 // What a search finds that begins with a climb from the start order and evaluates so many nodes at most.
-fn searched(alloc: Global, weights: Weights, nodes: u32) -> Result<Solution, AllocError>
+pub fn searched(alloc: Global, weights: Weights, nodes: u32) -> Result<Solution, AllocError>
     requires positive { 1 ≤ nodes }
     requires within_limit { nodes ≤ 1000000 }
     ensures weights { IfOk result (λ x. x.weights ≡ weights) }

@@ -5,11 +5,12 @@ ghost use Rattle.lop_desk.specs.Whole.{OnlyOpens};
 ghost use Rattle.lop_tool.specs.declared.reply.Refusal.TheVariants.{Words};
 ghost use Rattle.lop_tool.specs.Command.{command_of, HasBudget};
 ghost use Rattle.lop_tool.specs.Reply.{refusal_line, IsPrintable};
-ghost use Rattle.lop_tool.specs.Run.{AnswersCommand, StopCause, Ended, Faulted, ExactlyWhere, SolvesFile, AcceptsCertificate, WeighsOrder, IsRejected, PrintsRejection, IsRefused, PrintsRefusal, PrintsOnly, LeavesAtMost, LeavesAll, IsComplete};
+ghost use Rattle.lop_tool.specs.Run.{AnswersCommand, StopCause, Ended, Faulted, ExactlyWhere, SolvesFile, AcceptsCertificate, WeighsOrder, GeneratesWeights, IsRejected, PrintsRejection, IsRefused, PrintsRefusal, PrintsOnly, LeavesAtMost, LeavesAll, IsComplete};
 ghost use Rattle.lop_tool.specs.Keeping.{CanBeKept};
 
 use crate::checking::check;
 use crate::deliver::deliver;
+use crate::generation::generated;
 use crate::reply::{Refusal, Reply, Stop, print_reply};
 use crate::solve::solve;
 use crate::weighing::weigh;
@@ -37,6 +38,10 @@ pub fn run<D: Desk>(alloc: Global, words: &[String], desk: &mut D) -> u8
     // What `value` prints is the weight of the order in the one file by the matrix of the other.
     ensures values { let command = command_of (map (λ s. string_bytes s) words.now) in
         IfSome (D.told desk.old) (λ w. WeighsOrder command w (D.told desk.old) (D.told desk.new) result) }
+
+    // What `gen` prints are the numbers of a finished search on the weights that the seed gives.
+    ensures generates { let command = command_of (map (λ s. string_bytes s) words.now) in
+        IfSome (D.told desk.old) (λ w. GeneratesWeights command (D.told desk.old) (D.told desk.new) result) }
 
     ensures rejects { let command = command_of (map (λ s. string_bytes s) words.now) in
         IfSome (D.told desk.old) (λ w. ExactlyWhere result 1 (IsRejected command w) (Faulted command (D.told desk.old) (D.faults desk.old) (D.faults desk.new))) }
@@ -126,5 +131,6 @@ fn decide<D: Desk>(alloc: Global, command: &Command, desk: &mut D) -> Result<Rep
         Command::Solve { file, nodes, cert } => solve(alloc, file.text(), *nodes, cert, desk),
         Command::Check { file, cert } => check(alloc, file.text(), cert.text(), desk),
         Command::Value { file, order_file } => weigh(alloc, file.text(), order_file.text(), desk),
+        Command::Gen { seed, n } => generated(alloc, *seed, *n),
     }
 }

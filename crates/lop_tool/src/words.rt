@@ -2,7 +2,7 @@
 ghost use Rattle.std.specs.Prelude.{◌≡◌, Some, true, false, map, IfOk, IfErr, MatchOption};
 ghost use Rattle.std.specs.String.{string_bytes};
 ghost use Rattle.lop_desk.specs.Number.{digits_value};
-ghost use Rattle.lop_tool.specs.Command.{command_of, verb_command, solve_command, option_command, check_command, value_command, with_certificate, with_budget, is_name_word, is_budget};
+ghost use Rattle.lop_tool.specs.Command.{command_of, file_command, gen_command, verb_command, solve_command, option_command, check_command, value_command, with_certificate, with_budget, is_name_word, is_budget, is_seed, is_size};
 ghost use Rattle.lop_tool.specs.WordsFault.{IsWordsFault, IsNameFault};
 
 use lop_desk::plain_number;
@@ -52,6 +52,11 @@ pub enum Command {
         file: NameWord,
         order_file: NameWord,
     },
+    /// Search on the weights of n objects that the seed gives.
+    Gen {
+        seed: u64,
+        n: u16,
+    },
 }
 
 /// How many nodes may be evaluated where the words don't say.
@@ -59,6 +64,9 @@ const DEFAULT_BUDGET: u32 = 10_000;
 
 /// The greatest number of nodes that the words may ask for.
 const GREATEST_BUDGET: u64 = 1_000_000;
+
+/// The greatest number of objects that the words may ask for.
+const GREATEST_SIZE: u64 = 512;
 
 /// Why the words are no command.
 #[derive(Clone, Copy, Debug, PartialEq, Eq)]
@@ -72,14 +80,59 @@ pub fn read_words(alloc: Global, words: &[String]) -> Result<Command, WordsFault
     ensures command { IfOk result (λ command. command_of (map (λ s. string_bytes s) words.now) ≡ Some command) }
     ensures fault { IfErr result (IsWordsFault (command_of (map (λ s. string_bytes s) words.now))) }
 {
-    let [verb, format, file, words @ ..] = words else {
+    let [verb, first, second, words @ ..] = words else {
         return Err(WordsFault::Usage);
     };
-    if format.as_str() != "lolib" {
+    if verb.as_str() == "gen" {
+        gen_words(first.as_str(), second.as_str(), words)
+    } else {
+        file_words(alloc, verb.as_str(), first.as_str(), second.as_str(), words)
+    }
+}
+
+fn file_words(
+    alloc: Global,
+    verb: &str,
+    format: &str,
+    file: &str,
+    words: &[String],
+) -> Result<Command, WordsFault>
+    ensures command { IfOk result (λ command. file_command verb.now format.now file.now (map (λ s. string_bytes s) words.now) ≡ Some command) }
+    ensures fault { IfErr result (IsWordsFault (file_command verb.now format.now file.now (map (λ s. string_bytes s) words.now))) }
+{
+    if format != "lolib" {
         return Err(WordsFault::Usage);
     }
-    let file = name_word(alloc, file.as_str())?;
-    verb_words(alloc, verb.as_str(), file, words)
+    let file = name_word(alloc, file)?;
+    verb_words(alloc, verb, file, words)
+}
+
+fn gen_words(seed: &str, n: &str, words: &[String]) -> Result<Command, WordsFault>
+    ensures command { IfOk result (λ command. gen_command seed.now n.now (map (λ s. string_bytes s) words.now) ≡ Some command) }
+    ensures fault { IfErr result (IsWordsFault (gen_command seed.now n.now (map (λ s. string_bytes s) words.now))) }
+{
+    if !words.is_empty() {
+        return Err(WordsFault::Usage);
+    }
+    match (seed_word(seed), size_word(n)) {
+        (Some(seed), Some(n)) => Ok(Command::Gen { seed, n }),
+        _ => Err(WordsFault::Usage),
+    }
+}
+
+fn seed_word(word: &str) -> Option<u64>
+    ensures { MatchOption result (is_seed word.now ≡ false) (λ n. (is_seed word.now ≡ true) × (n ≡ digits_value word.now)) }
+{
+    plain_number(word.as_bytes())
+}
+
+fn size_word(word: &str) -> Option<u16>
+    ensures { MatchOption result (is_size word.now ≡ false) (λ n. (is_size word.now ≡ true) × (n ≡ digits_value word.now)) }
+{
+    match plain_number(word.as_bytes()) {
+        Some(n) if n >= 1 && n <= GREATEST_SIZE => Some(n as u16),
+        _ => None,
+    }
 }
 
 fn verb_words(

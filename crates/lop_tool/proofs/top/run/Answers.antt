@@ -1,4 +1,4 @@
-use Rattle.lop_tool.proofs.Promises.{solves, checks, values, rejects, rejection_line, usage_line, refuses_of, refusal_line_of, completes}
+use Rattle.lop_tool.proofs.Promises.{solves, checks, values, generates, rejects, rejection_line, usage_line, refuses_of, refusal_line_of, completes}
 use Rattle.lop_tool.proofs.top.run.Goals as goal
 
 pub returns-clause-solves : goal.returns-clause-solves
@@ -27,3 +27,6 @@ returns-clause-checks g c = checks _ _ _ _ _ _ c.carry_out.ensures.ended
 
 pub returns-clause-values : goal.returns-clause-values
 returns-clause-values g c = values _ _ _ _ _ _ c.carry_out.ensures.ended
+
+pub returns-clause-generates : goal.returns-clause-generates
+returns-clause-generates g c = generates _ _ _ _ _ _ c.carry_out.ensures.ended

@@ -29,5 +29,6 @@ returns c =
       bounds = λ s o x. rw whole (weight-le-lagrangian_value w fixed.pairs rec.scale rec.terms s o x (AreValid-AreCuts w.size rec.terms c.charge_terms-sides.ensures.terms.cuts));
       exact = λ d e s o x. weight-decided w fixed rec.scale rec.terms s is d e o x ∙ sym whole;
       falls = λ F among. rw whole (lagrangian_value-more w F fixed.pairs rec.scale rec.terms among.each (λ a b t u. not_both fixed a b is t u));
+      terms = c.charge_terms-sides.ensures.terms;
       room = search rules;
     }

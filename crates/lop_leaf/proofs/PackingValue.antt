@@ -1,25 +1,25 @@
 -- Each step of packing lowers the Lagrangian value by the cycle's multiplier, so what packing leaves shows the packing bound.
-use Rattle.std.proofs.Common.{◌≡◌, ◌≢◌, ◌⊎◌, ℕ, zero, suc, ◌+◌, ◌-◌, ◌*◌, ◌<◌, ◌≤◌, min, Bool, true, false, cond, eqb, ltb, ◌&&◌, ◌||◌, List, [], ◌∷◌, ◌++◌, length, refl, sym, ◌∙◌, ap, inl, inr, Option, Some, None, ℤ, pos, ◌+ℤ◌, ◌-ℤ◌, ◌*ℤ◌, ◌≤ℤ◌, subst, arith}
+use Rattle.std.proofs.Common.{◌≡◌, ◌≢◌, ℕ, zero, suc, ◌+◌, ◌-◌, ◌*◌, ◌<◌, ◌≤◌, Bool, true, false, cond, eqb, ltb, ◌&&◌, ◌||◌, List, [], ◌∷◌, ◌++◌, length, refl, sym, ◌∙◌, ap, inl, inr, Option, Some, None, ℤ, pos, ◌+ℤ◌, ◌-ℤ◌, ◌≤ℤ◌, subst, arith}
 use Rattle.std.specs.Prelude.{⊤}
 use Rattle.std.specs.List.{sum_by}
 use Rattle.std.specs.Int.{int_max}
-use Rattle.std.proofs.lemmas.Int.{ints, clamps, by_lt_z}
+use Rattle.std.proofs.lemmas.Int.{ints, clamps}
 use Rattle.std.proofs.lemmas.Bool.{cases_lt}
 use Rattle.std.proofs.lemmas.Bool.Decides.{nat_tests}
 use Rattle.std.proofs.lemmas.List.Sums.{sum_by_push}
 use Rattle.lop_model.specs.declared.pair.Pair.{Pair}
 use Rattle.lop_model.specs.Sums.{pair_sum}
-use Rattle.lop_model.specs.Matrix.{Matrix, entry}
+use Rattle.lop_model.specs.Matrix.{Matrix}
 use Rattle.lop_model.specs.Fixings.{has_pair}
 use Rattle.lop_model.specs.Bound.{pair_value, pair_bound}
 use Rattle.lop_model.proofs.SumLemmas.{pair_sum-same, pair_sum-add, pair_sum-one}
 use Rattle.lop_cuts.specs.Arcs.{cycle_arcs}
 use Rattle.lop_cuts.specs.Kind.{right_side_of}
-use Rattle.lop_cuts.specs.Lagrangian.{Term, charge, right_sides, reduced_entry, lagrangian_value}
+use Rattle.lop_cuts.specs.Lagrangian.{Term, right_sides, reduced_entry, lagrangian_value}
 use Rattle.lop_cuts.proofs.LagrangianLemmas.{lagrangian_value-plain}
 use Rattle.lop_leaf.specs.Packing.{positive_part, margin, lesser, margin_number, cycle_margin, dicycle, pack_cycle, pack_triple, pack_pair, pack_object, packed_terms, packing_bound, in_turn}
 use Rattle.lop_leaf.specs.Table.{AreThree}
-use Rattle.lop_leaf.proofs.MarginLemmas.{part-from_zero, part-positive, margin_of, arc_cases, one_way, reduced-dicycle}
+use Rattle.lop_leaf.proofs.MarginLemmas.{part-positive, margin_of, arc_cases, one_way, reduced-dicycle}
 
 -- ---- margins of at least m
 
@@ -168,10 +168,10 @@ lagrangian_value-dicycle C G terms a b c m three e h =
     let lost : ℕ → ℕ → ℤ = λ i j. pos (cond (has_pair arcs i j) m 0 + cond (has_pair arcs j i) m 0) in
     let within = within_each (margin G r a b) (margin G r b c) (margin G r c a) m e h in
     let at : (i j : ℕ) → pair_value G r i j ≡ pair_value G r' i j +ℤ lost i j = λ i j.
-        value_step (has_pair G j i) (has_pair G i j) (has_pair arcs i j) (has_pair arcs j i) (r i j) (r j i) m h
-        (within_arc G r a b c i j m within.0 within.1 within.2) (within_arc G r a b c j i m within.0 within.1 within.2) (one_way C.size a b c i j three)
-        ∙ ap (λ (x : ℤ). cond (has_pair G i j) x (cond (has_pair G j i) (r j i -ℤ pos (cond (has_pair arcs j i) m 0)) (int_max x (r j i -ℤ pos (cond (has_pair arcs j i) m 0)))) +ℤ lost i j) (sym (reduced-dicycle C terms a b c m i j))
-        ∙ ap (λ (y : ℤ). cond (has_pair G i j) (r' i j) (cond (has_pair G j i) y (int_max (r' i j) y)) +ℤ lost i j) (sym (reduced-dicycle C terms a b c m j i)) in
+    value_step (has_pair G j i) (has_pair G i j) (has_pair arcs i j) (has_pair arcs j i) (r i j) (r j i) m h
+    (within_arc G r a b c i j m within.0 within.1 within.2) (within_arc G r a b c j i m within.0 within.1 within.2) (one_way C.size a b c i j three)
+    ∙ ap (λ (x : ℤ). cond (has_pair G i j) x (cond (has_pair G j i) (r j i -ℤ pos (cond (has_pair arcs j i) m 0)) (int_max x (r j i -ℤ pos (cond (has_pair arcs j i) m 0)))) +ℤ lost i j) (sym (reduced-dicycle C terms a b c m i j))
+    ∙ ap (λ (y : ℤ). cond (has_pair G i j) (r' i j) (cond (has_pair G j i) y (int_max (r' i j) y)) +ℤ lost i j) (sym (reduced-dicycle C terms a b c m j i)) in
     let values : pair_sum C.size (pair_value G r) ≡ pair_sum C.size (pair_value G r') +ℤ (pos m +ℤ (pos m +ℤ pos m)) =
     pair_sum-same C.size (pair_value G r) (λ i j. pair_value G r' i j +ℤ lost i j) (λ i j _ _. at i j)
     ∙ pair_sum-add C.size (pair_value G r') lost

@@ -1,7 +1,6 @@
-use Rattle.std.proofs.Common.{◌≡◌, ◌∙◌, sym, ap, ◌^◌, ◌≤◌, ℤ, pos, ◌+ℤ◌, ◌≤ℤ◌, ◌<ℤ◌, rules, arith, to_z, of_z, FitsSigned}
+use Rattle.std.proofs.Common.{◌≡◌, ◌∙◌, sym, ap, pos, ◌+ℤ◌, rules, arith, to_z, of_z, FitsSigned}
 use Rattle.std.specs.Int.{w128}
-use Rattle.std.proofs.lemmas.Int.{ints, to_z-of_z, to_z_pos}
-use Rattle.lop_model.specs.Fixings.{one_pair, pair_then}
+use Rattle.std.proofs.lemmas.Int.{to_z-of_z, to_z_pos}
 use Rattle.lop_cuts.specs.Lagrangian.{right_sides}
 use Rattle.lop_cuts.proofs.LagrangianLemmas.{weight-le-lagrangian_value, lagrangian_value-more, AreValid-AreCuts}
 use Rattle.lop_leaf.specs.Bound.{record_value}

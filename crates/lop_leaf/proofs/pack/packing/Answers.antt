@@ -1,10 +1,8 @@
-use Rattle.std.proofs.Common.{◌≡◌, ◌∙◌, sym, ap, ℤ, pos, ◌*ℤ◌, ◌≤ℤ◌, subst, rules, arith, to_z, of_z, FitsSigned}
+use Rattle.std.proofs.Common.{◌∙◌, ap, rules, FitsSigned}
 use Rattle.std.specs.Int.{w128}
-use Rattle.std.proofs.lemmas.Int.{ints, to_z-of_z}
-use Rattle.lop_model.specs.Bound.{pair_bound}
+use Rattle.std.proofs.lemmas.Int.{to_z-of_z}
 use Rattle.lop_leaf.specs.Record.{ScaledTerms}
 use Rattle.lop_leaf.specs.Bound.{record_value}
-use Rattle.lop_leaf.specs.Packing.{packed, packing_bound}
 use Rattle.lop_leaf.proofs.PackingValue.{packing_bound-shown, packing_bound-le}
 use Rattle.lop_leaf.proofs.pack.packing.Goals as goal
 

@@ -6,7 +6,5 @@ pub mod CheckLemmas
 pub mod Ends
 pub mod Promises
 pub mod Agreement
-pub mod ExtensionLemmas
-pub mod JudgeLemmas
 pub mod Budget
 pub mod SearchedLemmas

@@ -2,13 +2,16 @@
 #![tactic(auto)]
 
 mod bound;
+mod charges;
 mod evaluated;
 mod leaf_record;
+mod pack;
 #[cfg(test)]
 mod tests;
 mod ticket;
 
 pub use bound::{PairRoom, bound_of, upper};
 pub use evaluated::Evaluated;
-pub use leaf_record::LeafRecord;
+pub use leaf_record::{LeafRecord, MAX_TERMS, Term};
+pub use pack::packing;
 pub use ticket::Ticket;

@@ -6,8 +6,6 @@ pub mod CheckLemmas
 pub mod Ends
 pub mod Promises
 pub mod Agreement
-pub mod ExtensionLemmas
-pub mod JudgeLemmas
 pub mod Budget
 pub mod SearchedLemmas
 pub mod ValueLemmas

@@ -1,6 +1,5 @@
 pub mod Command
 pub mod WordsFault
-pub mod Followers
 pub mod AnswerText
 pub mod Input
 pub mod InputRefusal

@@ -3,6 +3,7 @@ use Rattle.std.specs.Prelude.{◌≡◌, ℕ, ◌^◌, List, [], length, ◌++�
 use Rattle.lop_model.specs.Order.{IsOrder}
 use Rattle.lop_model.specs.Matrix.{Matrix, IsWeights, weight, IsUpperBound}
 use Rattle.lop_model.specs.Bound.{pair_bound}
+use Rattle.lop_leaf.specs.Packing.{packing_bound}
 use Rattle.lop_core.specs.Outcome.{IsOutcome}
 use Rattle.lop_tool.specs.declared.reply.Solution.{Solution}
 use Rattle.lop_tool.specs.declared.reply.Outcome.{Outcome}
@@ -73,7 +74,7 @@ pub record IsSolution (C : Matrix) (s : List ℕ) (value bound : ℤ) (nodes : �
 
 -- the numbers are those of a finished run of the search with this budget: the value is the order's weight, no order
 -- weighs more than the bound, and the two differ only where the budget was spent; the value is at least the weight of the
--- start order, and the bound at most the pair bound
+-- start order, and the bound at most the packing bound
 pub record IsSearched (C : Matrix) (budget : ℕ) (s : List ℕ) (value bound : ℤ) (nodes : ℕ) : Type 0 where
   pub weights : IsWeights C
   pub outcome : IsOutcome C budget s value bound nodes
@@ -82,7 +83,7 @@ pub record IsSearched (C : Matrix) (budget : ℕ) (s : List ℕ) (value bound : 
   pub bounds : IsUpperBound C bound
   pub spent : value <ℤ bound → nodes ≡ budget
   pub from_start : (t : List ℕ) → IsBeckerOrder C t → weight C t ≤ℤ value
-  pub from_pairs : bound ≤ℤ pair_bound C []
+  pub packed : bound ≤ℤ packing_bound C []
 
 -- what printing asks of a reply
 abbrev pub IsPrintable : Reply → Type 0

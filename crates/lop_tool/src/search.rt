@@ -4,9 +4,9 @@ ghost use Rattle.lop_core.specs.Tree.{out_count};
 ghost use Rattle.lop_core.specs.Core.{HasHistory};
 ghost use Rattle.lop_core.specs.Outcome.{IsFinished};
 
-use crate::judge::PairJudge;
 use lop_core::{Core, TakeReply};
 use lop_leaf::{Evaluated, Ticket};
+use lop_node::{Judge, PackJudge};
 use std::alloc::{AllocError, Global};
 use std::marker::Model;
 
@@ -16,7 +16,7 @@ const WORKER: u32 = 0;
 /// What a worker needs: a judge, and the rooms for what it is handed and what it finds.
 #[derive(Drop)]
 pub struct Worker {
-    judge: PairJudge,
+    judge: PackJudge,
     ticket: Ticket,
     found: Evaluated,
 }
@@ -36,7 +36,7 @@ impl Worker {
         ensures { IfOk result (λ worker. worker ≡ n) }
     {
         Ok(Worker {
-            judge: PairJudge::new(alloc, n)?,
+            judge: PackJudge::new(alloc, n)?,
             ticket: Ticket::new(alloc, n)?,
             found: Evaluated::new(alloc, n)?,
         })

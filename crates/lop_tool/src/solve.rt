@@ -1,8 +1,9 @@
 // What `solve` replies.
-ghost use Rattle.std.specs.Prelude.{◌≡◌, ℕ, ◌≤◌, List, length, ◌≤ℤ◌, IfOk, IfErr, if◌then◌else◌};
+ghost use Rattle.std.specs.Prelude.{◌≡◌, ℕ, ◌≤◌, List, [], length, ◌≤ℤ◌, IfOk, IfErr, if◌then◌else◌};
 ghost use Rattle.lop_model.specs.Order.{IsOrder};
 ghost use Rattle.lop_model.specs.Matrix.{weight};
 ghost use Rattle.lop_climb.specs.StartOrder.{IsBeckerOrder};
+ghost use Rattle.lop_leaf.specs.Packing.{packing_bound};
 ghost use Rattle.lop_core.specs.Tree.{out_count};
 ghost use Rattle.lop_core.specs.Machine.{state_bound};
 ghost use Rattle.lop_core.specs.Core.{HasHistory};
@@ -113,9 +114,11 @@ fn finish(worker: &mut Worker, core: &mut Core, order: &mut Order) -> Answer
     requires order { length order.old ≡ core.old.problem.weights.size }
     requires history { HasHistory core.old }
     requires none_out { out_count core.old.state.nodes ≡ 0 }
+    requires budget { 1 ≤ core.old.problem.budget }
     ensures same_problem { core.new.problem ≡ core.old.problem }
     ensures history { HasHistory core.new }
     ensures finished { IsFinished core.new.problem core.new.state }
+    ensures packed { result.bound ≤ℤ packing_bound core.new.problem.weights [] }
     ensures order { order.new ≡ core.new.order }
     ensures value { result.value ≡ core.new.state.best }
     ensures bound { result.bound ≡ state_bound core.new.state }

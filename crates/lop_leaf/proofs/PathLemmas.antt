@@ -1,26 +1,26 @@
 -- Closures of branching paths, and the bounds that they give: what a node's children inherit.
-use Rattle.std.proofs.Common.{◌≡◌, ℕ, zero, suc, ◌+◌, ◌<◌, ◌≤◌, Bool, true, false, eqb, ltb, ◌&&◌, ◌||◌, List, [], ◌∷◌, ◌++◌, length, take, get_or, refl, sym, ◌∙◌, subst, ℤ, ◌≤ℤ◌, arith}
+use Rattle.std.proofs.Common.{◌≡◌, ℕ, zero, suc, ◌+◌, ◌<◌, ◌≤◌, Bool, true, false, eqb, ltb, ◌&&◌, ◌||◌, List, [], ◌∷◌, ◌++◌, length, take, get_or, refl, sym, ◌∙◌, subst, ℤ, pos, ◌+ℤ◌, ◌*ℤ◌, ◌≤ℤ◌, ◌<ℤ◌, arith}
 use Rattle.std.specs.Prelude.{IsTrue}
 use Rattle.std.proofs.lemmas.List.{take_more, take_all}
 use Rattle.std.proofs.lemmas.Int.{ints}
 use Rattle.std.proofs.lemmas.Bool.Decides.{nat_tests}
 use Rattle.lop_model.specs.declared.pair.Pair.{Pair}
 use Rattle.lop_model.specs.Order.{IsOrder}
-use Rattle.lop_model.specs.Matrix.{Matrix, entry, weight}
-use Rattle.lop_model.specs.Fixings.{has_pair, one_pair, IsClosure, IsUndecided, IsBranchingPrefix, IsBranchingPath, IsLinearExtension}
-use Rattle.lop_model.specs.Bound.{pair_value, pair_bound}
-use Rattle.lop_model.proofs.SumLemmas.{pair_sum-same}
-use Rattle.lop_model.proofs.BoundLemmas.{weight-le-pair_bound}
+use Rattle.lop_model.specs.Matrix.{Matrix, weight}
+use Rattle.lop_model.specs.Fixings.{has_pair, one_pair, pair_then, IsClosure, IsUndecided, IsBranchingPrefix, IsBranchingPath, IsLinearExtension}
 use Rattle.lop_model.proofs.FixingsLemmas.{IsLinearExtension-closure}
 use Rattle.lop_model.proofs.ClosureLemmas.{closed_more, no_cycle_more, chain-more, IsClosure-itself, IsClosure-none}
+use Rattle.lop_cuts.proofs.LagrangianLemmas.{lagrangian_value-more, weight-le-certified, AreValid-AreCuts}
 use Rattle.lop_fix.specs.PartialOrder.{IsPartialOrder}
 use Rattle.lop_fix.specs.Table.{pair, pairs_of}
 use Rattle.lop_fix.proofs.PairLemmas.{has_pair-pairs_of}
 use Rattle.lop_fix.proofs.RisingLemmas.{pairs_of-rising}
 use Rattle.lop_fix.proofs.TableFixings.{has_pair-below, IsPartialOrder-none}
-use Rattle.lop_leaf.specs.Bound.{AreAmong}
-use Rattle.lop_leaf.specs.Sound.{Certifies}
-use Rattle.lop_leaf.proofs.FallLemmas.{pair_bound-falls}
+use Rattle.lop_leaf.specs.Record.{ScaledTerms, HasCutsBelow}
+use Rattle.lop_leaf.specs.Bound.{record_value, CertifiesUnder}
+use Rattle.lop_leaf.specs.Ticket.{TicketFields}
+use Rattle.lop_leaf.specs.Evaluated.{EvaluatedFields}
+use Rattle.lop_leaf.specs.Sound.{IsSoundTicket, IsSoundResult}
 
 -- ---- one more pair
 
@@ -97,11 +97,6 @@ same_tests false false p q = refl
 pub has_pair-closures : (F G H : List Pair) (a b : ℕ) → IsClosure F G → IsClosure F H → has_pair G a b ≡ has_pair H a b
 has_pair-closures F G H a b c d = same_tests (has_pair G a b) (has_pair H a b) (λ t. (d.each a b).1 ((c.each a b).0 t)) (λ t. (c.each a b).1 ((d.each a b).0 t))
 
-pub pair_bound-closures : (C : Matrix) (F G H : List Pair) → IsClosure F G → IsClosure F H → pair_bound C G ≡ pair_bound C H
-pair_bound-closures C F G H c d =
-    pair_sum-same C.size (pair_value G (entry C)) (pair_value H (entry C))
-    (λ i j _ _. rw (has_pair-closures F G H i j c d, has_pair-closures F G H j i c d) refl)
-
 -- every closure of a branching path is a partial order
 pub IsPartialOrder-closure : (n : ℕ) (path G : List Pair) → IsBranchingPath n path → IsClosure path G → IsPartialOrder (record { size = n; pairs = G })
 IsPartialOrder-closure n path G h c =
@@ -115,21 +110,29 @@ IsPartialOrder-closure n path G h c =
 -- ---- what is certified
 
 -- no order that extends the path weighs more than what is certified under it
-pub weight-le-certified : (C : Matrix) (path : List Pair) (b : ℤ) (s : List ℕ) → IsBranchingPath C.size path → Certifies C path b → IsOrder C.size s → IsLinearExtension s path → weight C s ≤ℤ b
-weight-le-certified C path b s h certified o x =
+pub weight-le-certified_under : (C : Matrix) (path : List Pair) (r : ScaledTerms) (b : ℤ) (s : List ℕ) → IsBranchingPath C.size path → HasCutsBelow C.size r.terms → CertifiesUnder C path r b → IsOrder C.size s → IsLinearExtension s path → weight C s ≤ℤ b
+weight-le-certified_under C path r b s h cuts certified o x =
     let own = ClosedOrder-path C.size path h in
-    let within : weight C s ≤ℤ pair_bound C own.pairs = weight-le-pair_bound C own.pairs s o (IsLinearExtension-closure s path own.pairs own.closure x) in
-    let most : pair_bound C own.pairs ≤ℤ b = certified.each own.pairs own.closure in
-    omega (arith, ints)
+    weight-le-certified C own.pairs r.scale r.terms b s o (IsLinearExtension-closure s path own.pairs own.closure x) (AreValid-AreCuts C.size r.terms cuts.cuts) (certified.each own.pairs own.closure)
+
+below_more : (x y z : ℤ) → x ≤ℤ y → y <ℤ z → x <ℤ z
+below_more x y z h k = omega (arith, ints)
 
 -- what is certified under a path is so under a longer one
-pub Certifies-more : (C : Matrix) (path more : List Pair) (b : ℤ) → IsBranchingPath C.size path → IsBranchingPath C.size (path ++ more) → Certifies C path b → Certifies C (path ++ more) b
-Certifies-more C path more b h k certified = record {
+pub CertifiesUnder-more : (C : Matrix) (path more : List Pair) (r : ScaledTerms) (b : ℤ) → IsBranchingPath C.size path → IsBranchingPath C.size (path ++ more) → CertifiesUnder C path r b → CertifiesUnder C (path ++ more) r b
+CertifiesUnder-more C path more r b h k certified = record {
   each = λ G c.
       let own = ClosedOrder-path C.size path h in
       let longer : IsPartialOrder (record { size = C.size; pairs = G }) = IsPartialOrder-closure C.size (path ++ more) G k c in
-      let among : AreAmong own.pairs G = record { each = λ a d t. (c.each a d).1 (chain-more more ((own.closure.each a d).0 t)) } in
-      let falls : pair_bound C G ≤ℤ pair_bound C own.pairs = pair_bound-falls C own.pairs (record { size = C.size; pairs = G }) longer among in
-      let most : pair_bound C own.pairs ≤ℤ b = certified.each own.pairs own.closure in
-      omega (arith, ints);
+      below_more (record_value C G r) (record_value C own.pairs r) (pos r.scale *ℤ (b +ℤ pos 1))
+      (lagrangian_value-more C own.pairs G r.scale r.terms (λ a d t. (c.each a d).1 (chain-more more ((own.closure.each a d).0 t))) (λ a d t u. longer.no_cycle a (pair_then t (one_pair u))))
+      (certified.each own.pairs own.closure);
 }
+
+-- a result's record certifies its bound
+pub CertifiesUnder-result : (C : Matrix) (t : TicketFields) (r : EvaluatedFields) → IsSoundResult C t r → CertifiesUnder C t.path r.shown r.bound
+CertifiesUnder-result C t r sound = record { each = λ G c. (sound.bound G c).next }
+
+-- no order that extends the path of a sound ticket weighs more than a sound result's bound
+pub weight-le-result : (C : Matrix) (t : TicketFields) (r : EvaluatedFields) (s : List ℕ) → IsSoundTicket C t → IsSoundResult C t r → IsOrder C.size s → IsLinearExtension s t.path → weight C s ≤ℤ r.bound
+weight-le-result C t r s ticket sound o x = weight-le-certified_under C t.path r.shown r.bound s ticket.branching sound.cuts (CertifiesUnder-result C t r sound) o x

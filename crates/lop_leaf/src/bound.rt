@@ -1,77 +1,71 @@
-ghost use Rattle.std.specs.Prelude.{◌≡◌, ◌≢◌, ◌↔◌, ℕ, ◌<◌, ◌≤◌, ◌^◌, List, ℤ, pos, neg_ℤ, ◌+ℤ◌, ◌*ℤ◌, ◌≤ℤ◌, ◌<ℤ◌, IfOk};
+ghost use Rattle.std.specs.Prelude.{◌≡◌, ◌↔◌, ℕ, ◌<◌, ◌≤◌, ◌^◌, [], List, length, ℤ, pos, neg_ℤ, ◌+ℤ◌, ◌*ℤ◌, ◌≤ℤ◌, ◌<ℤ◌, IfOk};
 ghost use Rattle.lop_model.specs.declared.pair.Pair.{Pair};
 ghost use Rattle.lop_model.specs.Order.{IsOrder};
-ghost use Rattle.lop_model.specs.Matrix.{entry, weight};
+ghost use Rattle.lop_model.specs.Matrix.{weight};
 ghost use Rattle.lop_model.specs.Fixings.{IsLinearExtension, AreAllDecided};
-ghost use Rattle.lop_model.specs.Bound.{pair_value, pair_bound};
-ghost use Rattle.lop_fix.specs.PartialOrder.{IsPartialOrder};
-ghost use Rattle.lop_leaf.specs.Bound.{AreAmong};
+ghost use Rattle.lop_leaf.specs.Record.{FitTerms};
+ghost use Rattle.lop_leaf.specs.Bound.{AreAmong, record_value};
 
 use crate::LeafRecord;
-use lop_fix::{Decision, Fixings};
+use crate::reduced::{charge_terms, load_scaled, pair_values};
+use lop_fix::Fixings;
 use lop_model::Weights;
 use std::alloc::{AllocError, Global};
 use std::marker::Model;
 
-/// The room in which `upper` works. Without terms it needs none.
+/// The room in which `upper` and `packing` work: two tables of n rows of n numbers.
 #[derive(Drop)]
 pub struct PairRoom {
     size: u16,
+    reduced: Vec<i128>,
+    margins: Vec<u64>,
 }
 
 impl Model for PairRoom {
-    ghost use Rattle.std.specs.Prelude.{ℕ};
+    ghost use Rattle.std.specs.Prelude.{◌≡◌, ℕ, ◌*◌};
+    ghost use Rattle.std.specs.Vec.{vec_len};
 
     ghost Value = { ℕ };
 
     ghost view = { λ r. r.size };
+
+    ghost invariant = { λ r. (vec_len r.reduced ≡ r.size * r.size) × (vec_len r.margins ≡ r.size * r.size) };
 }
 
 impl PairRoom {
-    pub fn new(_alloc: Global, n: u16) -> Result<Self, AllocError>
+    /// Takes n² numbers of 16 bytes and as many of 8.
+    pub fn new(alloc: Global, n: u16) -> Result<Self, AllocError>
         ensures { IfOk result (λ r. r ≡ n) }
     {
-        Ok(PairRoom { size: n })
+        let cells = n as usize * n as usize;
+        Ok(PairRoom {
+            size: n,
+            reduced: vec![in alloc; 0; cells]?,
+            margins: vec![in alloc; 0; cells]?,
+        })
     }
 }
 
-/// What two objects give: the entry of the way in which they are fixed, or the greater one.
-fn pair_value_at(weights: &Weights, fixings: &Fixings, i: u16, j: u16) -> i64
-    requires first { i < weights.now.size }
-    requires second { j < weights.now.size }
+/// The Lagrangian value of a record under the fixings: no order that extends them has a greater scale times
+/// weight. O(n²), and once for each arc of each term.
+pub fn upper(weights: &Weights, fixings: &Fixings, rec: &LeafRecord, room: &mut PairRoom) -> i128
     requires same_n { fixings.now.size ≡ weights.now.size }
-    requires differ { i ≢ j }
-    ensures { result ≡ pair_value fixings.now.pairs (entry weights.now) i j }
-{
-    match fixings.decided(i, j) {
-        Decision::Before => weights.at(i, j),
-        Decision::After => weights.at(j, i),
-        Decision::Undecided => weights.at(i, j).max(weights.at(j, i)),
-    }
-}
-
-/// The pair bound under the fixings, since no record has a term. O(n²).
-pub fn upper(weights: &Weights, fixings: &Fixings, _rec: &LeafRecord, _room: &mut PairRoom) -> i128
-    requires same_n { fixings.now.size ≡ weights.now.size }
-    requires room { _room.old ≡ weights.now.size }
-    ensures value { result ≡ pair_bound weights.now fixings.now.pairs }
+    requires fit { FitTerms weights.now.size rec.now.terms }
+    requires room { room.old ≡ weights.now.size }
+    ensures value { result ≡ record_value weights.now fixings.now.pairs rec.now }
     ensures low { neg_ℤ (pos (2 ^ 96)) <ℤ result }
     ensures high { result <ℤ pos (2 ^ 96) }
     ensures bounds { (s : List ℕ) → IsOrder weights.now.size s → IsLinearExtension s fixings.now.pairs
-        → weight weights.now s ≤ℤ result }
-    ensures exact { AreAllDecided weights.now.size fixings.now.pairs
+        → (pos rec.now.scale *ℤ weight weights.now s) ≤ℤ result }
+    ensures exact { AreAllDecided weights.now.size fixings.now.pairs → rec.now.terms ≡ []
         → (s : List ℕ) → IsOrder weights.now.size s → IsLinearExtension s fixings.now.pairs
-        → weight weights.now s ≡ result }
-    ensures falls { (F : List Pair) → AreAmong F fixings.now.pairs → result ≤ℤ pair_bound weights.now F }
-    ensures room { _room.new ≡ _room.old }
+        → pos rec.now.scale *ℤ weight weights.now s ≡ result }
+    ensures falls { (F : List Pair) → AreAmong F fixings.now.pairs → result ≤ℤ record_value weights.now F rec.now }
+    ensures room { room.new ≡ room.old }
 {
-    let mut sum: i128 = 0;
-    for j in 0..fixings.n() {
-        for i in 0..j {
-            sum += i128::from(pair_value_at(weights, fixings, i, j));
-        }
-    }
-    sum
+    load_scaled(weights, rec.scale(), &mut room.reduced);
+    let sides = charge_terms(weights, rec, &mut room.reduced);
+    sides + pair_values(fixings, &room.reduced)
 }
 
 /// The quotient, rounded down: the greatest weight that a record of that scale and that `upper` leaves open.

@@ -4,11 +4,12 @@
 mod bound;
 mod evaluated;
 mod leaf_record;
+mod reduced;
 #[cfg(test)]
 mod tests;
 mod ticket;
 
 pub use bound::{PairRoom, bound_of, upper};
 pub use evaluated::Evaluated;
-pub use leaf_record::LeafRecord;
+pub use leaf_record::{LeafRecord, MAX_TERMS, Term};
 pub use ticket::Ticket;

@@ -1,0 +1,72 @@
+-- The packing bound: 3-dicycles with multipliers, taken greedily in lexicographic order. It is a list of steps, and a yardstick.
+use Rattle.std.specs.Prelude.{ℕ, zero, suc, ◌+◌, ◌-◌, List, [], ◌∷◌, ◌++◌, length, sum_by, Bool, nat_lt, ◌&&◌, Option, Some, None, ℤ, pos, negsuc, ◌-ℤ◌, if◌then◌else◌, min}
+use Rattle.lop_model.specs.declared.pair.Pair.{Pair}
+use Rattle.lop_model.specs.Matrix.{Matrix}
+use Rattle.lop_model.specs.Fixings.{has_pair}
+use Rattle.lop_model.specs.Bound.{pair_bound}
+use Rattle.lop_cuts.specs.declared.kind.CutKind.TheVariants.{Dicycle}
+use Rattle.lop_cuts.specs.Lagrangian.{Term, reduced_entry}
+use Rattle.lop_leaf.specs.Record.{ScaledTerms}
+
+-- a number, or 0 in place of a negative one
+abbrev pub positive_part : ℤ → ℕ
+positive_part (pos m) = m
+positive_part (negsuc m) = 0
+
+-- what the arc from a to b can lose before its pair gives less than that: nothing where the pair is fixed the other way, anything (None) where it is fixed this way, else what the arc has more than its reverse
+abbrev pub margin : List Pair → (ℕ → ℕ → ℤ) → ℕ → ℕ → Option ℕ
+margin G r a b = if has_pair G b a then Some 0 else (if has_pair G a b then None else Some (positive_part (r a b -ℤ r b a)))
+
+-- the lesser of two margins
+abbrev pub lesser : Option ℕ → Option ℕ → Option ℕ
+lesser None y = y
+lesser (Some m) None = Some m
+lesser (Some m) (Some k) = Some (min m k)
+
+-- a margin as a number. That of a whole cycle is never None where the pairs are closed and have no cycle
+abbrev pub margin_number : Option ℕ → ℕ
+margin_number None = 0
+margin_number (Some m) = m
+
+-- the least margin of the cycle a, b, c
+abbrev pub cycle_margin : List Pair → (ℕ → ℕ → ℤ) → ℕ → ℕ → ℕ → ℕ
+cycle_margin G r a b c = margin_number (lesser (margin G r a b) (lesser (margin G r b c) (margin G r c a)))
+
+-- the cycle a, b, c with a multiplier
+abbrev pub dicycle : ℕ → ℕ → ℕ → ℕ → Term
+dicycle a b c m = record { cut = Dicycle (a ∷ b ∷ c ∷ []); multiplier = m }
+
+-- the terms after the cycle a, b, c: where its least margin in the reduced entries is positive, it is the cycle's multiplier. There are at most 4,096 terms
+abbrev pub pack_cycle : Matrix → List Pair → ℕ → ℕ → ℕ → List Term → List Term
+pack_cycle C G a b c terms =
+    let m = cycle_margin G (reduced_entry C 1 terms) a b c in
+    if nat_lt 0 m && nat_lt (length terms) 4096 then terms ++ dicycle a b c m ∷ [] else terms
+
+-- the terms after both cycles of three objects
+abbrev pub pack_triple : Matrix → List Pair → ℕ → ℕ → ℕ → List Term → List Term
+pack_triple C G i j k terms = pack_cycle C G i k j (pack_cycle C G i j k terms)
+
+-- the steps a, a + 1, .., a + count - 1 in turn
+abbrev pub in_turn : {X : Type 0} → ℕ → ℕ → (ℕ → X → X) → X → X
+in_turn a zero step x = x
+in_turn a (suc count) step x = step (a + count) (in_turn a count step x)
+
+-- the terms after the triples i < j < k of an i and a j
+abbrev pub pack_pair : Matrix → List Pair → ℕ → ℕ → List Term → List Term
+pack_pair C G i j = in_turn (j + 1) (C.size - (j + 1)) (pack_triple C G i j)
+
+-- the terms after the triples i < j < k of an i
+abbrev pub pack_object : Matrix → List Pair → ℕ → List Term → List Term
+pack_object C G i = in_turn (i + 1) (C.size - (i + 1)) (pack_pair C G i)
+
+-- the terms after all triples i < j < k in lexicographic order
+abbrev pub packed_terms : Matrix → List Pair → List Term
+packed_terms C G = in_turn 0 C.size (pack_object C G) []
+
+-- what packing leaves: these terms at scale 1
+abbrev pub packed : Matrix → List Pair → ScaledTerms
+packed C G = record { scale = 1; terms = packed_terms C G }
+
+-- the packing bound under closed pairs: the pair bound less each multiplier once
+abbrev pub packing_bound : Matrix → List Pair → ℤ
+packing_bound C G = pair_bound C G -ℤ pos (sum_by (λ t. t.multiplier) (packed_terms C G))

@@ -1,3 +1,7 @@
+pub mod CellLemmas
+pub mod ChargeLemmas
+pub mod MarginLemmas
+pub mod PackingLemmas
 pub mod FallLemmas
 pub mod QuotientLemmas
 pub mod PathLemmas

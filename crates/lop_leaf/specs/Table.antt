@@ -1,34 +1,64 @@
 -- Tables of n rows of n numbers that lie one after another.
-use Rattle.std.specs.Prelude.{◌≡◌, ◌≢◌, ℕ, ◌+◌, ◌-◌, ◌*◌, ◌<◌, ◌^◌, List, length, count_by, slice_index, slice_index_or, Option, Some, None, ℤ, pos}
+use Rattle.std.specs.Prelude.{◌≡◌, ◌≢◌, ◌⊎◌, ℕ, ◌+◌, ◌-◌, ◌*◌, ◌<◌, ◌^◌, ◌==◌, List, [], ◌∷◌, length, count_by, All, slice_index, Option, Some, None, if◌then◌else◌}
 use Rattle.lop_model.specs.declared.pair.Pair.{Pair}
 use Rattle.lop_model.specs.Matrix.{Matrix}
 use Rattle.lop_cuts.specs.Arcs.{arc, same_arc}
-use Rattle.lop_cuts.specs.Lagrangian.{Term, reduced_entry}
+use Rattle.lop_cuts.specs.declared.kind.CutKind.{CutKind}
+use Rattle.lop_cuts.specs.declared.kind.CutKind.TheVariants.{Dicycle}
+use Rattle.lop_cuts.specs.Lagrangian.{Term, charge, reduced_entry}
+use Rattle.lop_leaf.specs.Record.{ScaledTerms, FitTerms}
 use Rattle.lop_leaf.specs.Packing.{margin}
 
--- the whole number in row a and column b
-abbrev pub cell : List ℤ → ℕ → ℕ → ℕ → ℤ
-cell t n a b = slice_index_or t (a * n + b) (pos 0)
+-- the number in row a and column b
+abbrev pub cell : List ℕ → ℕ → ℕ → ℕ → ℕ
+cell t n a b = slice_index t (a * n + b)
 
 -- how often the arc from a to b stands in a list
 abbrev pub arc_count : ℕ → ℕ → List Pair → ℕ
 arc_count a b arcs = count_by (λ x. same_arc x (arc a b)) arcs
 
--- the table has the reduced entries
-pub record HasReduced (C : Matrix) (scale : ℕ) (terms : List Term) (t : List ℤ) : Type 0 where
-  pub square : length t ≡ C.size * C.size
-  pub each : (a b : ℕ) → a < C.size → b < C.size → cell t C.size a b ≡ reduced_entry C scale terms a b
+-- the table has the charge of each arc
+pub record HasCharges (n : ℕ) (terms : List Term) (t : List ℕ) : Type 0 where
+  pub square : length t ≡ n * n
+  pub each : (a b : ℕ) → a < n → b < n → cell t n a b ≡ charge terms a b
 
 -- a margin in a word of 64 bits: the greatest word stands for one without limit
 abbrev pub IsMarginWord : Option ℕ → ℕ → Type 0
 IsMarginWord None x = x ≡ 2 ^ 64 - 1
 IsMarginWord (Some m) x = (x ≡ m) × (m < 2 ^ 63)
 
--- the margin of the arc from a to b
-abbrev pub margin_word : List ℕ → ℕ → ℕ → ℕ → ℕ
-margin_word t n a b = slice_index t (a * n + b)
-
 -- the table has the margins of all arcs, by the reduced entries at scale 1
 pub record HasMargins (C : Matrix) (G : List Pair) (terms : List Term) (t : List ℕ) : Type 0 where
   pub square : length t ≡ C.size * C.size
-  pub each : (a b : ℕ) → a < C.size → b < C.size → a ≢ b → IsMarginWord (margin G (reduced_entry C 1 terms) a b) (margin_word t C.size a b)
+  pub each : (a b : ℕ) → a < C.size → b < C.size → a ≢ b → IsMarginWord (margin G (reduced_entry C 1 terms) a b) (cell t C.size a b)
+
+-- a margin word less m, where it has a limit
+abbrev pub lowered : ℕ → ℕ → ℕ
+lowered x m = if x == 2 ^ 64 - 1 then x else x - m
+
+-- the cut is a dicycle of which an arc has no margin left
+pub record IsSpent (n : ℕ) (t : List ℕ) (cut : CutKind) : Type 0 where
+  pub a : ℕ
+  pub b : ℕ
+  pub c : ℕ
+  pub is : cut ≡ Dicycle (a ∷ b ∷ c ∷ [])
+  pub first : a < n
+  pub second : b < n
+  pub third : c < n
+  pub none_left : (cell t n a b ≡ 0) ⊎ (cell t n b c ≡ 0) ⊎ (cell t n c a ≡ 0)
+
+-- what stands between two steps of packing: the margins, and terms at scale 1 whose cycles have no margin left
+pub record IsPacking (C : Matrix) (G : List Pair) (r : ScaledTerms) (t : List ℕ) : Type 0 where
+  pub scale : r.scale ≡ 1
+  pub fit : FitTerms C.size r.terms
+  pub margins : HasMargins C G r.terms t
+  pub spent : All (λ u. IsSpent C.size t u.cut) r.terms
+
+-- three different objects below n
+pub record AreThree (n a b c : ℕ) : Type 0 where
+  pub first : a < n
+  pub second : b < n
+  pub third : c < n
+  pub first_second : a ≢ b
+  pub second_third : b ≢ c
+  pub first_third : a ≢ c

@@ -7,7 +7,7 @@ ghost use Rattle.lop_leaf.specs.Record.{FitTerms};
 ghost use Rattle.lop_leaf.specs.Bound.{AreAmong, record_value};
 
 use crate::LeafRecord;
-use crate::reduced::{charge_terms, load_scaled, pair_values};
+use crate::charges::{charge_terms, clear_charges, pair_values};
 use lop_fix::Fixings;
 use lop_model::Weights;
 use std::alloc::{AllocError, Global};
@@ -17,8 +17,8 @@ use std::marker::Model;
 #[derive(Drop)]
 pub struct PairRoom {
     size: u16,
-    reduced: Vec<i128>,
-    margins: Vec<u64>,
+    charges: Vec<u128>,
+    pub(crate) margins: Vec<u64>,
 }
 
 impl Model for PairRoom {
@@ -29,7 +29,7 @@ impl Model for PairRoom {
 
     ghost view = { λ r. r.size };
 
-    ghost invariant = { λ r. (vec_len r.reduced ≡ r.size * r.size) × (vec_len r.margins ≡ r.size * r.size) };
+    ghost invariant = { λ r. (vec_len r.charges ≡ r.size * r.size) × (vec_len r.margins ≡ r.size * r.size) };
 }
 
 impl PairRoom {
@@ -40,7 +40,7 @@ impl PairRoom {
         let cells = n as usize * n as usize;
         Ok(PairRoom {
             size: n,
-            reduced: vec![in alloc; 0; cells]?,
+            charges: vec![in alloc; 0; cells]?,
             margins: vec![in alloc; 0; cells]?,
         })
     }
@@ -63,9 +63,11 @@ pub fn upper(weights: &Weights, fixings: &Fixings, rec: &LeafRecord, room: &mut 
     ensures falls { (F : List Pair) → AreAmong F fixings.now.pairs → result ≤ℤ record_value weights.now F rec.now }
     ensures room { room.new ≡ room.old }
 {
-    load_scaled(weights, rec.scale(), &mut room.reduced);
-    let sides = charge_terms(weights, rec, &mut room.reduced);
-    sides + pair_values(fixings, &room.reduced)
+    prove_eq!(fixings.n(), weights.n());
+    let n = weights.n() as usize;
+    clear_charges(&mut room.charges, n);
+    let sides = charge_terms(rec, &mut room.charges, n);
+    sides as i128 + pair_values(weights, fixings, rec, &room.charges)
 }
 
 /// The quotient, rounded down: the greatest weight that a record of that scale and that `upper` leaves open.

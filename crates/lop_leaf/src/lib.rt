@@ -2,9 +2,10 @@
 #![tactic(auto)]
 
 mod bound;
+mod charges;
 mod evaluated;
 mod leaf_record;
-mod reduced;
+mod pack;
 #[cfg(test)]
 mod tests;
 mod ticket;
@@ -12,4 +13,5 @@ mod ticket;
 pub use bound::{PairRoom, bound_of, upper};
 pub use evaluated::Evaluated;
 pub use leaf_record::{LeafRecord, MAX_TERMS, Term};
+pub use pack::packing;
 pub use ticket::Ticket;

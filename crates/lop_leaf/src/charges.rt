@@ -1,0 +1,109 @@
+// What a record's terms charge at the arcs of their cuts, and what pairs of objects give by the reduced entries: the
+// scale times the entry, less the charge.
+ghost use Rattle.std.specs.Prelude.{◌≡◌, ◌≢◌, ℕ, ◌+◌, ◌*◌, ◌<◌, ◌≤◌, ◌^◌, [], length, All, slice_index, slice_set, pos, neg_ℤ, ◌≤ℤ◌};
+ghost use Rattle.lop_model.specs.Sums.{pair_sum};
+ghost use Rattle.lop_model.specs.Bound.{pair_value};
+ghost use Rattle.lop_cuts.specs.Kind.{IsArcBelow};
+ghost use Rattle.lop_cuts.specs.Lagrangian.{Term, right_sides, reduced_entry};
+ghost use Rattle.lop_leaf.specs.Record.{FitTerms, IsScaledTerms};
+ghost use Rattle.lop_leaf.specs.Table.{cell, arc_count, HasCharges};
+
+use crate::LeafRecord;
+use lop_fix::{Decision, Fixings};
+use lop_model::{Pair, Weights};
+
+/// Charges nothing. O(n²).
+pub fn clear_charges(table: &mut [u128], n: usize)
+    requires square { length table.old ≡ n * n }
+    ensures { HasCharges n [] table.new }
+{
+    for charge in table.iter_mut() {
+        *charge = 0;
+    }
+}
+
+/// Adds the multiplier at each of the arcs. O(arcs).
+fn charge_arcs(table: &mut [u128], n: usize, arcs: &[Pair], multiplier: u64)
+    requires square { length table.old ≡ n * n }
+    requires within_limit { n ≤ 512 }
+    requires below { All (IsArcBelow n) arcs.now }
+    requires few { length arcs.now ≤ 64 }
+    requires bounded { (a b : ℕ) → a < n → b < n → cell table.old n a b ≤ 2 ^ 100 }
+    ensures same_length { length table.new ≡ length table.old }
+    ensures each { (a b : ℕ) → a < n → b < n → cell table.new n a b ≡ cell table.old n a b + multiplier * arc_count a b arcs.now }
+{
+    for arc in arcs {
+        table[arc.before as usize * n + arc.after as usize] += u128::from(multiplier);
+    }
+}
+
+/// Adds each term's multiplier at the arcs of its cut, and answers the multiplied right sides, added up. O(arcs of
+/// all terms).
+pub fn charge_terms(rec: &LeafRecord, table: &mut [u128], n: usize) -> u128
+    requires within_limit { n ≤ 512 }
+    requires fit { FitTerms n rec.now.terms }
+    requires none { HasCharges n [] table.old }
+    ensures sides { result ≡ right_sides rec.now.terms }
+    ensures few { result ≤ 2 ^ 81 }
+    ensures charged { HasCharges n rec.now.terms table.new }
+    ensures terms { IsScaledTerms rec.now }
+{
+    let mut sides: u128 = 0;
+    for index in 0..rec.len() {
+        let term = rec.term(index);
+        charge_arcs(table, n, term.cut.arcs().as_slice(), term.multiplier);
+        sides += u128::from(term.multiplier) * u128::from(term.cut.right_side());
+    }
+    sides
+}
+
+/// The scale times the entry, less the charge.
+fn reduced_at(weights: &Weights, rec: &LeafRecord, table: &[u128], a: u16, b: u16) -> i128
+    requires first { a < weights.now.size }
+    requires second { b < weights.now.size }
+    requires differ { a ≢ b }
+    requires charged { HasCharges weights.now.size rec.now.terms table.now }
+    ensures value { result ≡ reduced_entry weights.now rec.now.scale rec.now.terms a b }
+    ensures low { neg_ℤ (pos (2 ^ 77)) ≤ℤ result }
+    ensures high { result ≤ℤ pos (2 ^ 77) }
+{
+    let charge = table[a as usize * weights.n() as usize + b as usize];
+    i128::from(rec.scale()) * i128::from(weights.at(a, b)) - charge as i128
+}
+
+/// What two objects give: the reduced entry of the way in which they are fixed, or the greater one.
+fn pair_value_at(weights: &Weights, fixings: &Fixings, rec: &LeafRecord, table: &[u128], i: u16, j: u16) -> i128
+    requires first { i < weights.now.size }
+    requires second { j < weights.now.size }
+    requires differ { i ≢ j }
+    requires same_n { fixings.now.size ≡ weights.now.size }
+    requires charged { HasCharges weights.now.size rec.now.terms table.now }
+    ensures value { result ≡ pair_value fixings.now.pairs (reduced_entry weights.now rec.now.scale rec.now.terms) i j }
+    ensures low { neg_ℤ (pos (2 ^ 77)) ≤ℤ result }
+    ensures high { result ≤ℤ pos (2 ^ 77) }
+{
+    match fixings.decided(i, j) {
+        Decision::Before => reduced_at(weights, rec, table, i, j),
+        Decision::After => reduced_at(weights, rec, table, j, i),
+        Decision::Undecided => {
+            reduced_at(weights, rec, table, i, j).max(reduced_at(weights, rec, table, j, i))
+        }
+    }
+}
+
+/// What all pairs of objects give, added up. O(n²).
+pub fn pair_values(weights: &Weights, fixings: &Fixings, rec: &LeafRecord, table: &[u128]) -> i128
+    requires same_n { fixings.now.size ≡ weights.now.size }
+    requires charged { HasCharges weights.now.size rec.now.terms table.now }
+    ensures sum { result ≡ pair_sum weights.now.size (pair_value fixings.now.pairs (reduced_entry weights.now rec.now.scale rec.now.terms)) }
+    ensures low { neg_ℤ (pos (2 ^ 95)) ≤ℤ result }
+    ensures high { result ≤ℤ pos (2 ^ 95) }
+{
+    let mut sum: i128 = 0;
+    for j in 0..weights.n() {
+        for i in 0..j {
+            sum += pair_value_at(weights, fixings, rec, table, i, j);
+        }
+    }
+    sum
+}

@@ -1,11 +1,11 @@
 -- What terms charge at arcs, and bounds of reduced entries.
-use Rattle.std.proofs.Common.{◌≡◌, ◌≢◌, ◌⊎◌, ℕ, zero, suc, ◌+◌, ◌*◌, ◌^◌, ◌<◌, ◌≤◌, Bool, true, false, cond, eqb, ◌&&◌, List, [], length, take, get_or, set, refl, sym, ◌∙◌, ap, inl, inr, ℤ, pos, neg_ℤ, ◌+ℤ◌, ◌-ℤ◌, ◌*ℤ◌, ◌≤ℤ◌, arith}
+use Rattle.std.proofs.Common.{◌≡◌, ◌≢◌, ◌⊎◌, ℕ, zero, suc, ◌+◌, ◌*◌, ◌^◌, ◌<◌, ◌≤◌, Bool, true, false, cond, eqb, ◌&&◌, List, length, take, get_or, set, refl, sym, ◌∙◌, ap, inl, inr, ℤ, pos, neg_ℤ, ◌+ℤ◌, ◌*ℤ◌, ◌≤ℤ◌, arith}
 use Rattle.std.specs.Prelude.{unsigned_abs}
-use Rattle.std.specs.List.{All, sum_by}
+use Rattle.std.specs.List.{All}
 use Rattle.std.proofs.Math.IntN.{suc_ℤ-*ℤ, zero-*ℤ}
 use Rattle.std.proofs.Math.Nat.{mul-le-mul_left}
 use Rattle.std.proofs.lemmas.Int.{ints}
-use Rattle.std.proofs.lemmas.Bool.{cases_eq, cases_lt}
+use Rattle.std.proofs.lemmas.Bool.{cases_lt}
 use Rattle.std.proofs.lemmas.Bool.Decides.{nat_tests}
 use Rattle.std.proofs.lemmas.List.Elements.{All-take}
 use Rattle.std.proofs.lemmas.List.{length-take-le}
@@ -16,7 +16,7 @@ use Rattle.lop_model.specs.Matrix.{Matrix, entry, pair_absolute, absolute_total,
 use Rattle.lop_model.proofs.SumLemmas.{pair_sum-le, pair_sum-one}
 use Rattle.lop_model.proofs.MatrixLemmas.{unsigned_abs_bounds}
 use Rattle.lop_cuts.specs.Arcs.{arc, same_arc}
-use Rattle.lop_cuts.specs.Kind.{IsCut, right_side_of, arcs_of}
+use Rattle.lop_cuts.specs.Kind.{right_side_of, arcs_of}
 use Rattle.lop_cuts.specs.Lagrangian.{Term, charge, right_sides}
 use Rattle.lop_model.specs.Fixings.{has_pair}
 use Rattle.lop_leaf.specs.Record.{IsMultiplier, ScaledTerms, IsScaledTerms}

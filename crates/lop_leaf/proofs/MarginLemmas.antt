@@ -1,6 +1,5 @@
 -- Margins in words of 64 bits, and what a step of packing makes of them.
-use Rattle.std.proofs.Common.{◌≡◌, ◌≢◌, ◌⊎◌, ℕ, zero, suc, ◌+◌, ◌-◌, ◌*◌, ◌^◌, ◌<◌, ◌≤◌, min, Bool, true, false, cond, eqb, ltb, ◌&&◌, ◌||◌, List, [], ◌∷◌, ◌++◌, length, refl, sym, ◌∙◌, ap, inl, inr, Option, Some, None, ℤ, pos, negsuc, ◌+ℤ◌, ◌-ℤ◌, ◌*ℤ◌, ◌≤ℤ◌, ◌<ℤ◌, arith}
-use Rattle.std.specs.Prelude.{IsTrue}
+use Rattle.std.proofs.Common.{◌≡◌, ◌⊎◌, ℕ, ◌+◌, ◌-◌, ◌^◌, ◌<◌, ◌≤◌, min, Bool, true, false, cond, eqb, ltb, ◌&&◌, ◌||◌, List, [], ◌∷◌, ◌++◌, length, refl, sym, ◌∙◌, ap, inl, inr, Option, Some, None, ℤ, pos, negsuc, ◌-ℤ◌, ◌*ℤ◌, ◌≤ℤ◌, arith}
 use Rattle.std.proofs.lemmas.Int.{ints, by_lt_z}
 use Rattle.std.proofs.lemmas.Bool.Decides.{nat_tests}
 use Rattle.std.proofs.lemmas.List.Sums.{sum_by_push}
@@ -133,12 +132,12 @@ one_way n a b c x y three e f =
     let bc = three.second_third in
     let ac = three.first_third in
     elim (arc_cases a b c x y e) [
-    | inl p ↦ elim (arc_cases a b c y x f) [ inl q ↦ ab (q.0 ∙ sym p.1) | inr rest ↦ elim rest [ inl q ↦ ac (p.0 ∙ sym q.1) | inr q ↦ bc (p.1 ∙ sym q.0) ] ]
-    | inr rest ↦ elim rest [
-      | inl p ↦ elim (arc_cases a b c y x f) [ inl q ↦ ac (q.0 ∙ sym p.1) | inr more ↦ elim more [ inl q ↦ bc (p.0 ∙ sym q.1) | inr q ↦ ab (q.1 ∙ sym p.0) ] ]
-      | inr p ↦ elim (arc_cases a b c y x f) [ inl q ↦ bc (q.1 ∙ sym p.0) | inr more ↦ elim more [ inl q ↦ ab (p.1 ∙ sym q.0) | inr q ↦ ac (p.1 ∙ sym q.0) ] ]
+      | inl p ↦ elim (arc_cases a b c y x f) [ inl q ↦ ab (q.0 ∙ sym p.1) | inr rest ↦ elim rest [ inl q ↦ ac (p.0 ∙ sym q.1) | inr q ↦ bc (p.1 ∙ sym q.0) ] ]
+      | inr rest ↦ elim rest [
+        | inl p ↦ elim (arc_cases a b c y x f) [ inl q ↦ ac (q.0 ∙ sym p.1) | inr more ↦ elim more [ inl q ↦ bc (p.0 ∙ sym q.1) | inr q ↦ ab (q.1 ∙ sym p.0) ] ]
+        | inr p ↦ elim (arc_cases a b c y x f) [ inl q ↦ bc (q.1 ∙ sym p.0) | inr more ↦ elim more [ inl q ↦ ab (p.1 ∙ sym q.0) | inr q ↦ ac (p.1 ∙ sym q.0) ] ]
+      ]
     ]
-  ]
 
 -- ---- one more dicycle
 

@@ -1,7 +1,6 @@
 -- The steps of packing, over a table of margins.
-use Rattle.std.proofs.Common.{◌≡◌, ◌≢◌, ◌⊎◌, ℕ, zero, suc, ◌+◌, ◌-◌, ◌*◌, ◌^◌, ◌<◌, ◌≤◌, min, Bool, true, false, cond, eqb, ◌&&◌, ◌||◌, List, [], ◌∷◌, ◌++◌, length, get_or, set, refl, sym, ◌∙◌, ap, subst, inl, inr, Option, Some, None, ℤ, pos, negsuc, neg_ℤ, ◌+ℤ◌, ◌-ℤ◌, ◌*ℤ◌, ◌≤ℤ◌, ◌<ℤ◌, arith}
+use Rattle.std.proofs.Common.{◌≡◌, ◌≢◌, ◌⊎◌, ℕ, suc, ◌+◌, ◌-◌, ◌*◌, ◌^◌, ◌<◌, ◌≤◌, min, Bool, true, false, cond, eqb, ◌&&◌, ◌||◌, List, [], ◌∷◌, ◌++◌, length, get_or, set, refl, sym, ◌∙◌, ap, subst, inl, inr, ℤ, pos, negsuc, neg_ℤ, ◌+ℤ◌, ◌-ℤ◌, ◌*ℤ◌, ◌≤ℤ◌, ◌<ℤ◌, arith}
 use Rattle.std.specs.Prelude.{unsigned_abs}
-use Rattle.std.specs.List.{All}
 use Rattle.std.proofs.Math.IntN.{suc_ℤ-*ℤ, zero-*ℤ}
 use Rattle.std.proofs.lemmas.Int.{ints}
 use Rattle.std.proofs.lemmas.Bool.{cases_lt}
@@ -17,12 +16,12 @@ use Rattle.lop_cuts.specs.declared.kind.CutKind.{CutKind}
 use Rattle.lop_cuts.specs.declared.kind.CutKind.TheVariants.{Dicycle}
 use Rattle.lop_cuts.specs.Lagrangian.{Term, reduced_entry}
 use Rattle.lop_fix.specs.PartialOrder.{FixedPairs, IsPartialOrder}
-use Rattle.lop_leaf.specs.Record.{ScaledTerms, FitTerms, IsMultiplier}
+use Rattle.lop_leaf.specs.Record.{ScaledTerms}
 use Rattle.lop_leaf.specs.Packing.{positive_part, margin, cycle_margin, dicycle, in_turn}
 use Rattle.lop_leaf.specs.Table.{cell, IsMarginWord, lowered, HasMargins, IsSpent, IsPacking, AreThree}
 use Rattle.lop_leaf.proofs.CellLemmas.{read-set}
 use Rattle.lop_leaf.proofs.ChargeLemmas.{entries_within}
-use Rattle.lop_leaf.proofs.MarginLemmas.{part-from_zero, part-to_zero, margin_of, word_step, least_word, limited, lowered-zero, lowered-limited, arc_cases, one_way, reduced-dicycle}
+use Rattle.lop_leaf.proofs.MarginLemmas.{margin_of, word_step, least_word, limited, lowered-zero, lowered-limited, arc_cases, one_way, reduced-dicycle}
 
 -- ---- first margins
 
@@ -156,9 +155,13 @@ spent_step : (n : ℕ) (t u : List ℕ) (a b c m : ℕ) (cut : CutKind) → ((x 
 spent_step n t u a b c m cut each is =
     let stays : (x y : ℕ) → y < n → cell t n x y ≡ 0 → cell u n x y ≡ 0 = λ x y l e. each x y l ∙ lowered-zero (has_pair (cycle_arcs (a ∷ b ∷ c ∷ [])) x y) (cell t n x y) m e in
     record {
-      a = is.a; b = is.b; c = is.c;
+      a = is.a;
+      b = is.b;
+      c = is.c;
       is = is.is;
-      first = is.first; second = is.second; third = is.third;
+      first = is.first;
+      second = is.second;
+      third = is.third;
       none_left = elim is.none_left [
         | inl e ↦ inl (stays is.a is.b is.second e)
         | inr rest ↦ elim rest [
@@ -185,11 +188,15 @@ pub spent_new : (n : ℕ) (t u : List ℕ) (a b c m : ℕ) → AreThree n a b c 
     → IsSpent n u (Dicycle (a ∷ b ∷ c ∷ []))
 spent_new n t u a b c m three e l each =
     let gone : (x y : ℕ) → y < n → has_pair (cycle_arcs (a ∷ b ∷ c ∷ [])) x y ≡ true → m ≡ cell t n x y → cell u n x y ≡ 0 = λ x y ly on f.
-        each x y ly ∙ taken (has_pair (cycle_arcs (a ∷ b ∷ c ∷ [])) x y) (cell t n x y) m on f l in
+    each x y ly ∙ taken (has_pair (cycle_arcs (a ∷ b ∷ c ∷ [])) x y) (cell t n x y) m on f l in
     record {
-      a = a; b = b; c = c;
+      a = a;
+      b = b;
+      c = c;
       is = refl;
-      first = three.first; second = three.second; third = three.third;
+      first = three.first;
+      second = three.second;
+      third = three.third;
       none_left = elim (which_least (cell t n a b) (cell t n b c) (cell t n c a)) [
         | inl f ↦ inl (gone a b three.second (is_arc a b c a b (inl (refl, refl))) (e ∙ f))
         | inr rest ↦ elim rest [

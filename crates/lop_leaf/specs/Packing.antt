@@ -1,5 +1,5 @@
 -- The packing bound: 3-dicycles with multipliers, taken greedily in lexicographic order. It is a list of steps, and a yardstick.
-use Rattle.std.specs.Prelude.{ℕ, zero, suc, ◌+◌, ◌-◌, List, [], ◌∷◌, ◌++◌, length, sum_by, Bool, nat_lt, ◌&&◌, Option, Some, None, ℤ, pos, negsuc, ◌-ℤ◌, if◌then◌else◌, min}
+use Rattle.std.specs.Prelude.{ℕ, zero, suc, ◌+◌, ◌-◌, List, [], ◌∷◌, ◌++◌, length, sum_by, nat_lt, ◌&&◌, Option, Some, None, ℤ, pos, negsuc, ◌-ℤ◌, if◌then◌else◌, min}
 use Rattle.lop_model.specs.declared.pair.Pair.{Pair}
 use Rattle.lop_model.specs.Matrix.{Matrix}
 use Rattle.lop_model.specs.Fixings.{has_pair}

@@ -1,4 +1,4 @@
-use Rattle.std.specs.Prelude.{◌≡◌, List, ℤ, ◌≤ℤ◌, IfSome, IfNone}
+use Rattle.std.specs.Prelude.{◌≡◌, List, ◌≤ℤ◌, IfSome, IfNone}
 use Rattle.lop_model.specs.declared.pair.Pair.{Pair}
 use Rattle.lop_model.specs.Order.{IsOrder}
 use Rattle.lop_model.specs.Matrix.{Matrix, weight}

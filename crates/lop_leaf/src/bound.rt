@@ -3,7 +3,7 @@ ghost use Rattle.lop_model.specs.declared.pair.Pair.{Pair};
 ghost use Rattle.lop_model.specs.Order.{IsOrder};
 ghost use Rattle.lop_model.specs.Matrix.{weight};
 ghost use Rattle.lop_model.specs.Fixings.{IsLinearExtension, AreAllDecided};
-ghost use Rattle.lop_leaf.specs.Record.{FitTerms};
+ghost use Rattle.lop_leaf.specs.Record.{FitTerms, IsScaledTerms};
 ghost use Rattle.lop_leaf.specs.Bound.{AreAmong, record_value};
 
 use crate::LeafRecord;
@@ -61,6 +61,7 @@ pub fn upper(weights: &Weights, fixings: &Fixings, rec: &LeafRecord, room: &mut 
         → (s : List ℕ) → IsOrder weights.now.size s → IsLinearExtension s fixings.now.pairs
         → pos rec.now.scale *ℤ weight weights.now s ≡ result }
     ensures falls { (F : List Pair) → AreAmong F fixings.now.pairs → result ≤ℤ record_value weights.now F rec.now }
+    ensures terms { IsScaledTerms rec.now }
     ensures room { room.new ≡ room.old }
 {
     prove_eq!(fixings.n(), weights.n());

@@ -72,7 +72,14 @@ fn reduced_at(weights: &Weights, rec: &LeafRecord, table: &[u128], a: u16, b: u1
 }
 
 /// What two objects give: the reduced entry of the way in which they are fixed, or the greater one.
-fn pair_value_at(weights: &Weights, fixings: &Fixings, rec: &LeafRecord, table: &[u128], i: u16, j: u16) -> i128
+fn pair_value_at(
+    weights: &Weights,
+    fixings: &Fixings,
+    rec: &LeafRecord,
+    table: &[u128],
+    i: u16,
+    j: u16,
+) -> i128
     requires first { i < weights.now.size }
     requires second { j < weights.now.size }
     requires differ { i ≢ j }

@@ -141,7 +141,15 @@ fn least_margin(table: &[u64], n: usize, a: u16, b: u16, c: u16) -> u64
 }
 
 /// Gives the cycle a, b, c its least margin as a multiplier, where that is positive and the record has room.
-fn pack_one(weights: &Weights, fixings: &Fixings, table: &mut [u64], rec: &mut LeafRecord, a: u16, b: u16, c: u16)
+fn pack_one(
+    weights: &Weights,
+    fixings: &Fixings,
+    table: &mut [u64],
+    rec: &mut LeafRecord,
+    a: u16,
+    b: u16,
+    c: u16,
+)
     requires same_n { fixings.now.size ≡ weights.now.size }
     requires three { AreThree weights.now.size a b c }
     requires packing { IsPacking weights.now fixings.now.pairs rec.old table.old }
@@ -159,7 +167,15 @@ fn pack_one(weights: &Weights, fixings: &Fixings, table: &mut [u64], rec: &mut L
 }
 
 /// Packs both cycles of three objects.
-fn pack_both(weights: &Weights, fixings: &Fixings, table: &mut [u64], rec: &mut LeafRecord, i: u16, j: u16, k: u16)
+fn pack_both(
+    weights: &Weights,
+    fixings: &Fixings,
+    table: &mut [u64],
+    rec: &mut LeafRecord,
+    i: u16,
+    j: u16,
+    k: u16,
+)
     requires same_n { fixings.now.size ≡ weights.now.size }
     requires first { i < j }
     requires second { j < k }
@@ -173,7 +189,14 @@ fn pack_both(weights: &Weights, fixings: &Fixings, table: &mut [u64], rec: &mut 
 }
 
 /// Packs the triples i < j < k of an i and a j. O(n).
-fn pack_thirds(weights: &Weights, fixings: &Fixings, table: &mut [u64], rec: &mut LeafRecord, i: u16, j: u16)
+fn pack_thirds(
+    weights: &Weights,
+    fixings: &Fixings,
+    table: &mut [u64],
+    rec: &mut LeafRecord,
+    i: u16,
+    j: u16,
+)
     requires same_n { fixings.now.size ≡ weights.now.size }
     requires first { i < j }
     requires second { j < weights.now.size }
@@ -188,7 +211,13 @@ fn pack_thirds(weights: &Weights, fixings: &Fixings, table: &mut [u64], rec: &mu
 }
 
 /// Packs the triples i < j < k of an i. O(n²).
-fn pack_seconds(weights: &Weights, fixings: &Fixings, table: &mut [u64], rec: &mut LeafRecord, i: u16)
+fn pack_seconds(
+    weights: &Weights,
+    fixings: &Fixings,
+    table: &mut [u64],
+    rec: &mut LeafRecord,
+    i: u16,
+)
     requires same_n { fixings.now.size ≡ weights.now.size }
     requires first { i < weights.now.size }
     requires packing { IsPacking weights.now fixings.now.pairs rec.old table.old }
@@ -217,7 +246,12 @@ fn pack_all(weights: &Weights, fixings: &Fixings, table: &mut [u64], rec: &mut L
 
 /// The packing bound under the fixings, and a record that shows it: 3-dicycles with multipliers at scale 1, taken
 /// greedily in lexicographic order, at most 4,096 of them. O(n³) steps of a few comparisons, and no memory.
-pub fn packing(weights: &Weights, fixings: &Fixings, rec: &mut LeafRecord, room: &mut PairRoom) -> i128
+pub fn packing(
+    weights: &Weights,
+    fixings: &Fixings,
+    rec: &mut LeafRecord,
+    room: &mut PairRoom,
+) -> i128
     requires same_n { fixings.now.size ≡ weights.now.size }
     requires room { room.old ≡ weights.now.size }
     ensures value { result ≡ packing_bound weights.now fixings.now.pairs }

@@ -1,7 +1,6 @@
-use Rattle.std.proofs.Common.{◌≡◌, ◌∙◌, sym, ap, ◌^◌, ◌≤◌, ℤ, pos, ◌+ℤ◌, ◌≤ℤ◌, ◌<ℤ◌, rules, arith, to_z, of_z, FitsSigned}
+use Rattle.std.proofs.Common.{◌≡◌, ◌∙◌, sym, ap, pos, ◌+ℤ◌, rules, arith, to_z, of_z, FitsSigned}
 use Rattle.std.specs.Int.{w128}
-use Rattle.std.proofs.lemmas.Int.{ints, to_z-of_z, to_z_pos}
-use Rattle.lop_model.specs.Fixings.{one_pair, pair_then}
+use Rattle.std.proofs.lemmas.Int.{to_z-of_z, to_z_pos}
 use Rattle.lop_cuts.specs.Lagrangian.{right_sides}
 use Rattle.lop_cuts.proofs.LagrangianLemmas.{weight-le-lagrangian_value, lagrangian_value-more, AreValid-AreCuts}
 use Rattle.lop_leaf.specs.Bound.{record_value}
@@ -29,5 +28,6 @@ returns c =
       bounds = λ s o x. rw whole (weight-le-lagrangian_value w fixed.pairs rec.scale rec.terms s o x (AreValid-AreCuts w.size rec.terms c.charge_terms-sides.ensures.terms.cuts));
       exact = λ d e s o x. weight-decided w fixed rec.scale rec.terms s is d e o x ∙ sym whole;
       falls = λ F among. rw whole (lagrangian_value-more w F fixed.pairs rec.scale rec.terms among.each (λ a b t u. not_both fixed a b is t u));
+      terms = c.charge_terms-sides.ensures.terms;
       room = search rules;
     }

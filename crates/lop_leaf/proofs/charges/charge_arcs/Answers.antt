@@ -1,4 +1,4 @@
-use Rattle.std.proofs.Common.{◌≡◌, ◌*◌, ◌<◌, length, ◌∙◌}
+use Rattle.std.proofs.Common.{◌≡◌, ◌*◌, length, ◌∙◌}
 use Rattle.std.proofs.lemmas.List.{length-set}
 use Rattle.lop_fix.specs.Table.{pair}
 use Rattle.lop_leaf.proofs.ChargeLemmas.{charge_step}

@@ -1,4 +1,4 @@
-use Rattle.std.proofs.Common.{◌≡◌, ◌*◌, ◌+◌, ◌<◌, length, ◌∙◌, arith}
+use Rattle.std.proofs.Common.{◌*◌, ◌+◌, ◌<◌, ◌∙◌, arith}
 use Rattle.lop_leaf.proofs.CellLemmas.{place_within}
 use Rattle.lop_leaf.proofs.charges.clear_charges.Goals as goal
 

@@ -1,4 +1,4 @@
-use Rattle.std.proofs.Common.{◌≡◌, ◌∙◌, refl, false, true, rules, pos, ◌^◌, ◌≤ℤ◌, FitsSigned, arith, to_z, of_z}
+use Rattle.std.proofs.Common.{◌≡◌, ◌∙◌, refl, false, true, rules, FitsSigned, arith}
 use Rattle.std.specs.Int.{w128, int_max}
 use Rattle.std.proofs.lemmas.Int.{to_z-of_z, ints, clamps}
 use Rattle.lop_model.specs.Fixings.{has_pair, one_pair}

@@ -1,6 +1,6 @@
-use Rattle.std.proofs.Common.{◌≡◌, ap, ◌∙◌, arith}
+use Rattle.std.proofs.Common.{◌≡◌, ap, arith}
 use Rattle.std.proofs.lemmas.Int.{ints}
-use Rattle.lop_model.specs.Sums.{sum_below, pair_sum}
+use Rattle.lop_model.specs.Sums.{sum_below}
 use Rattle.lop_model.specs.Bound.{pair_value}
 use Rattle.lop_model.proofs.SumLemmas.{sum_below_more, pair_sum_more}
 use Rattle.lop_cuts.specs.Lagrangian.{reduced_entry}

@@ -1,9 +1,8 @@
-use Rattle.std.proofs.Common.{◌≡◌, ◌+◌, ◌*◌, ◌^◌, ◌<◌, ◌≤◌, ℕ, get_or, ℤ, pos, negsuc, neg_ℤ, ◌-ℤ◌, ◌*ℤ◌, ◌≤ℤ◌, ◌∙◌, ap, sym, subst, rules, arith, to_z, of_z, FitsSigned}
+use Rattle.std.proofs.Common.{◌≡◌, ◌+◌, ◌*◌, ◌^◌, ◌≤◌, ℕ, get_or, ℤ, pos, negsuc, neg_ℤ, ◌-ℤ◌, ◌*ℤ◌, ◌≤ℤ◌, ◌∙◌, ap, sym, subst, rules, arith, to_z, of_z, FitsSigned}
 use Rattle.std.specs.Int.{w64, w128}
 use Rattle.std.proofs.lemmas.Int.{ints, to_z-of_z, to_z_pos}
-use Rattle.lop_cuts.specs.Lagrangian.{charge, reduced_entry}
-use Rattle.lop_model.specs.Matrix.{Matrix, entry}
-use Rattle.lop_leaf.specs.Record.{ScaledTerms}
+use Rattle.lop_cuts.specs.Lagrangian.{charge}
+use Rattle.lop_model.specs.Matrix.{entry}
 use Rattle.lop_leaf.proofs.ChargeLemmas.{charge-le, scaled_low, scaled_high, entry_low, entry_high}
 use Rattle.lop_leaf.proofs.charges.reduced_at.Goals as goal
 

@@ -1,4 +1,4 @@
-use Rattle.std.proofs.Common.{◌≡◌, ◌≢◌, ◌⊎◌, ℕ, ◌+◌, ◌*◌, ◌<◌, List, [], length, cond, eqb, ◌&&◌, get_or, set, ◌∙◌, ap, sym, subst, inl, inr, arith}
+use Rattle.std.proofs.Common.{◌≡◌, ◌≢◌, ℕ, ◌+◌, ◌*◌, ◌<◌, [], length, set, ◌∙◌, ap, sym, subst, inl, inr, arith}
 use Rattle.std.proofs.lemmas.Bool.{cases_eq}
 use Rattle.std.proofs.lemmas.List.{length-set}
 use Rattle.lop_cuts.specs.Lagrangian.{reduced_entry}
@@ -22,7 +22,7 @@ loop-b-preserved c =
       here = λ b l differ. let P : ℕ → Type 0 = λ w. IsMarginWord (margin c.args.fixings.now.pairs (reduced_entry c.args.weights.now 1 []) a b) w in
           elim (cases_eq b c.loop-b.b) [
             | inl same ↦ subst (λ (k : ℕ). a ≢ k → IsMarginWord (margin c.args.fixings.now.pairs (reduced_entry c.args.weights.now 1 []) a k) (cell (set t (a * c.n-n.result + c.loop-b.b) v) n a k)) (sym same)
-              (λ apart. let Q : ℕ → Type 0 = λ w. IsMarginWord (margin c.args.fixings.now.pairs (reduced_entry c.args.weights.now 1 []) a c.loop-b.b) w in subst Q (sym (ap (λ s. cell s n a c.loop-b.b) place ∙ read_here t n a c.loop-b.b v 0 whole c.requires.row in_row)) (c.margin_or_none.ensures apart)) differ
+                (λ apart. let Q : ℕ → Type 0 = λ w. IsMarginWord (margin c.args.fixings.now.pairs (reduced_entry c.args.weights.now 1 []) a c.loop-b.b) w in subst Q (sym (ap (λ s. cell s n a c.loop-b.b) place ∙ read_here t n a c.loop-b.b v 0 whole c.requires.row in_row)) (c.margin_or_none.ensures apart)) differ
             | inr other ↦ subst P (sym (ap (λ s. cell s n a b) place ∙ read_elsewhere t n a c.loop-b.b a b v 0 whole c.requires.row in_row (omega arith) (λ _ e. other e))) (c.loop-b.invariant.here b (omega arith) differ)
           ];
       others = λ x y differ l. ap (λ s. cell s n x y) place ∙ read_elsewhere t n a c.loop-b.b x y v 0 whole c.requires.row in_row l (λ e _. differ e) ∙ c.loop-b.invariant.others x y differ l;

@@ -1,11 +1,9 @@
-use Rattle.std.proofs.Common.{◌≡◌, ℤ, ◌-ℤ◌, true, false, refl, ◌∙◌, ap, sym, rules, arith, to_z, of_z, FitsSigned, ◌^◌}
+use Rattle.std.proofs.Common.{◌≡◌, ◌-ℤ◌, true, false, refl, ◌∙◌, ap, rules, to_z, of_z, FitsSigned}
 use Rattle.std.specs.Int.{w64}
-use Rattle.std.proofs.lemmas.Int.{ints, to_z-of_z}
+use Rattle.std.proofs.lemmas.Int.{to_z-of_z}
 use Rattle.lop_model.specs.Matrix.{entry}
 use Rattle.lop_model.specs.Fixings.{has_pair, one_pair}
-use Rattle.lop_cuts.specs.Lagrangian.{reduced_entry}
-use Rattle.lop_leaf.specs.Packing.{positive_part, margin}
-use Rattle.lop_leaf.specs.Table.{IsMarginWord}
+use Rattle.lop_leaf.specs.Packing.{positive_part}
 use Rattle.lop_leaf.proofs.FallLemmas.{false_from_not, not_both}
 use Rattle.lop_leaf.proofs.PackingLemmas.{free_word}
 use Rattle.lop_leaf.proofs.pack.margin_at.Goals as goal

@@ -1,15 +1,12 @@
-use Rattle.std.proofs.Common.{◌≡◌, ◌≢◌, ℕ, ◌+◌, ◌<◌, ◌≤◌, ◌^◌, [], ◌∷◌, ◌++◌, List, length, min, cond, refl, sym, ◌∙◌, ap, subst, arith, rules}
+use Rattle.std.proofs.Common.{◌≡◌, ℕ, ◌<◌, [], ◌∷◌, ◌++◌, cond, sym, ◌∙◌, ap, subst, arith}
 use Rattle.lop_cuts.specs.Arcs.{cycle_arcs}
-use Rattle.lop_cuts.specs.Lagrangian.{Term, reduced_entry}
 use Rattle.lop_cuts.specs.Kind.{FitsCut}
 use Rattle.lop_cuts.specs.declared.kind.CutKind.{CutKind}
 use Rattle.lop_cuts.specs.declared.kind.CutKind.TheVariants.{Dicycle}
 use Rattle.lop_model.specs.Fixings.{has_pair}
-use Rattle.lop_leaf.specs.Record.{IsMultiplier}
-use Rattle.lop_leaf.specs.Packing.{cycle_margin, dicycle, pack_cycle}
-use Rattle.lop_leaf.specs.Table.{cell, lowered, IsPacking}
+use Rattle.lop_leaf.specs.Table.{cell, lowered}
 use Rattle.lop_leaf.proofs.MarginLemmas.{pack_cycle-taken, pack_cycle-none, pack_cycle-full}
-use Rattle.lop_leaf.proofs.PackingLemmas.{LeastWord, least_is, packing_step}
+use Rattle.lop_leaf.proofs.PackingLemmas.{least_is, packing_step}
 use Rattle.lop_leaf.proofs.pack.pack_one.Goals.{else-m-gt0-via-then-m-gt0+else-len-lt-MAX_TERMS, else-m-gt0-via-else-m-gt0}
 use Rattle.lop_leaf.proofs.pack.pack_one.Goals as goal
 

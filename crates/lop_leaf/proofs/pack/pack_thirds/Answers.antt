@@ -1,5 +1,5 @@
-use Rattle.std.proofs.Common.{◌≡◌, ◌+◌, ◌-◌, ◌≤◌, ◌∙◌, sym, ap, arith}
-use Rattle.lop_leaf.specs.Packing.{pack_triple, in_turn}
+use Rattle.std.proofs.Common.{◌+◌, ◌∙◌, sym, ap, arith}
+use Rattle.lop_leaf.specs.Packing.{pack_triple}
 use Rattle.lop_leaf.proofs.PackingLemmas.{in_turn_more}
 use Rattle.lop_leaf.proofs.pack.pack_thirds.Goals as goal
 

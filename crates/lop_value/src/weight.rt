@@ -1,0 +1,23 @@
+ghost use Rattle.std.specs.Prelude.{◌≡◌, ◌^◌, length, pos, neg_ℤ, ◌≤ℤ◌};
+ghost use Rattle.lop_model.specs.Matrix.{weight};
+
+use lop_model::{Order, Weights};
+
+/// The weight of an order: the sum of the entries above the diagonal once rows and columns stand in that order. O(n²).
+pub fn value(weights: &Weights, order: &Order) -> i128
+    requires { length order.now ≡ weights.now.size }
+    ensures value { result ≡ weight weights.now order.now }
+    ensures low { neg_ℤ (pos (10 ^ 18)) ≤ℤ result }
+    ensures high { result ≤ℤ pos (10 ^ 18) }
+{
+    let n = order.n();
+    prove_eq!(n, weights.n());
+    let mut sum: i128 = 0;
+    for q in 0..n {
+        let last = order.at(q);
+        for p in 0..q {
+            sum += i128::from(weights.at(order.at(p), last));
+        }
+    }
+    sum
+}

@@ -18,7 +18,7 @@ use Rattle.lop_core.specs.declared.node.Standing.{Standing}
 use Rattle.lop_core.specs.declared.node.Standing.TheVariants.{Idle, Out, Split}
 use Rattle.lop_core.specs.Tree.{reversed, child, node_at, is_out, path_of}
 use Rattle.lop_core.specs.Machine.{Problem, SearchState, root_state, changed, after, settled, closed, divided, IsOutTo}
-use Rattle.lop_core.specs.Journal.{replay, entries_of, is_of, takes, reports, HasTake, HasReport, MayTake, MayReport, MayFollow, IsLawfulJournal}
+use Rattle.lop_core.specs.Journal.{replay, room_count, entries_of, is_of, takes, reports, HasTake, HasReport, MayTake, MayReport, MayFollow, IsLawfulJournal}
 use Rattle.lop_core.proofs.Replay.{replay_push}
 
 -- `Any` of the elements that pass a test, with one element more
@@ -192,7 +192,7 @@ reported_fate s t journal w n bound pair value room out d (done e a) =
     cc
 
 -- the report's effect
-report_effect : (problem : Problem) (journal : List Entry) (w n : ℕ) (bound : ℤ) (pair : Option Pair) (value : ℤ) (room : Bool) → MayReport problem (replay problem journal) w n bound pair value room
+report_effect : (problem : Problem) (journal : List Entry) (w n : ℕ) (bound : ℤ) (pair : Option Pair) (value : ℤ) (room : Bool) → MayReport problem (replay problem journal) (room_count journal) w n bound pair value room
     → Effect (replay problem journal).nodes (after (replay problem journal) (Report w n bound pair value room)).nodes (replay problem journal).best (after (replay problem journal) (Report w n bound pair value room)).best n
     × IsDone (after (replay problem journal) (Report w n bound pair value room)).nodes (after (replay problem journal) (Report w n bound pair value room)).best n
 unfolding after

@@ -4,11 +4,11 @@ ghost use Rattle.lop_model.specs.Fixings.{IsLinearExtension};
 ghost use Rattle.lop_leaf.specs.Record.{no_terms};
 ghost use Rattle.lop_leaf.specs.Sound.{IsSoundTicket, IsSoundResult};
 
-use crate::start::order_weight;
 use crate::{Core, Entry, NodeView, ReportReply, Standing, TakeReply};
 use lop_fix::Fixings;
 use lop_leaf::{Evaluated, LeafRecord, PairRoom, Ticket, upper};
 use lop_model::{Order, Pair, Weights};
+use lop_value::value;
 use std::alloc::Global;
 use std::test::Fail;
 
@@ -66,8 +66,8 @@ fn judge(
     }
     let bound = upper(weights, fixings, shown, room);
     let pair = fixings.first_undecided();
-    let value = order_weight(weights, order);
-    into.put(ticket.node(), bound, pair, shown, order, value);
+    let weight = value(weights, order);
+    into.put(ticket.node(), bound, pair, shown, order, weight);
     true
 }
 
@@ -179,7 +179,7 @@ fn a_root_that_is_out(rt: HostRuntime) -> Result<(), Fail> {
         [Entry::Take { worker: 4, node: 0 }].as_slice()
     );
     assert_eq!(rt; (core.nodes(), core.live(), core.budget()), (1, 1, 3));
-    assert_eq!(rt; order_weight(core.weights(), core.best_order()), 10);
+    assert_eq!(rt; value(core.weights(), core.best_order()), 10);
     if core.nodes() > 0 {
         let root = NodeView {
             parent: 0,

@@ -5,16 +5,17 @@ use Rattle.std.proofs.lemmas.Int.{ints}
 use Rattle.std.proofs.lemmas.Bool.{cases_eq, cases_lt}
 use Rattle.std.proofs.lemmas.List.{get_or-set_same, get_or-set_other, get_or_append_left, get_or_push, length_push}
 use Rattle.lop_model.specs.declared.pair.Pair.{Pair}
-use Rattle.lop_model.specs.Matrix.{Matrix}
-use Rattle.lop_model.specs.Fixings.{IsUndecided, IsBranchingPath}
-use Rattle.lop_model.specs.Bound.{pair_bound}
+use Rattle.lop_model.specs.Matrix.{Matrix, entry}
+use Rattle.lop_model.proofs.SumLemmas.{pair_sum-same}
+use Rattle.lop_model.specs.Fixings.{IsClosure, IsUndecided, IsBranchingPath}
+use Rattle.lop_model.specs.Bound.{pair_value, pair_bound}
 use Rattle.std.proofs.Math.IntN.{suc_ℤ-*ℤ, zero-*ℤ}
 use Rattle.lop_model.proofs.ClosureLemmas.{IsClosure-none}
 use Rattle.lop_cuts.specs.Lagrangian.{lagrangian_value}
 use Rattle.lop_cuts.proofs.LagrangianLemmas.{lagrangian_value-plain}
 use Rattle.lop_leaf.specs.Record.{ScaledTerms, no_terms}
 use Rattle.lop_leaf.specs.Bound.{CertifiesUnder}
-use Rattle.lop_leaf.proofs.PathLemmas.{CertifiesUnder-more, pair_bound-closures}
+use Rattle.lop_leaf.proofs.PathLemmas.{CertifiesUnder-more, has_pair-closures}
 use Rattle.lop_core.specs.declared.node.SearchNode.{SearchNode}
 use Rattle.lop_core.specs.declared.node.Standing.{Standing}
 use Rattle.lop_core.specs.declared.node.Standing.TheVariants.{Idle, Split}
@@ -24,6 +25,11 @@ use Rattle.lop_core.specs.Records.{empty_record}
 use Rattle.lop_core.specs.Core.{AreCertified, root_book}
 use Rattle.lop_core.proofs.ExtensionLemmas.{reversed_undecided, IsBranchingPath-push}
 use Rattle.lop_core.proofs.TreeLemmas.{paths-changed, path_of_push_old, path_of_push_new}
+
+pair_bound-closures : (C : Matrix) (F G H : List Pair) → IsClosure F G → IsClosure F H → pair_bound C G ≡ pair_bound C H
+pair_bound-closures C F G H c d =
+    pair_sum-same C.size (pair_value G (entry C)) (pair_value H (entry C))
+    (λ i j _ _. rw (has_pair-closures F G H i j c d, has_pair-closures F G H j i c d) refl)
 
 once : (x : ℤ) → pos 1 *ℤ x ≡ x
 once x =

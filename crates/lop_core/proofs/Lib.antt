@@ -11,6 +11,7 @@ pub mod Linked
 pub mod Scans
 pub mod PackedLemmas
 pub mod Certified
+pub mod BookLemmas
 pub mod PathRoom
 pub mod CoreLemmas
 pub mod Extensions

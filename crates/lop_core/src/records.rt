@@ -1,7 +1,7 @@
 // The records of the nodes, in rooms that are made once.
 ghost use Rattle.std.specs.Prelude.{◌≡◌, ◌+◌, ◌*◌, ◌<◌, ◌≤◌, [], ◌∷◌, ◌++◌, length, true, All, AllPairs, IfOk, IfSome, IfNone, vec_len, vec_capacity, min};
 ghost use Rattle.lop_core.specs.Records.{AreDifferentCuts, IsTakenIn, IsTakenOrKept, empty_record, finds_room, new_cuts, record_at, scaled_of, term_room as term_room_of, terms_of, with_children};
-ghost use Rattle.lop_leaf.specs.Record.{IsMultiplier};
+ghost use Rattle.lop_leaf.specs.Record.{IsMultiplier, IsScaledTerms};
 ghost use Rattle.lop_core.specs.Kept.{AreKept, book_of};
 
 use crate::cut_index::{CUT_ROOM, CutIndex};
@@ -142,7 +142,8 @@ impl Records {
     /// Whether a record finds room.
     fn finds_room(&self, shown: &LeafRecord) -> bool
         requires { AreKept self.now }
-        ensures { result ≡ finds_room self.now.term_room (book_of self.now) shown.now.terms }
+        ensures room { result ≡ finds_room self.now.term_room (book_of self.now) shown.now.terms }
+        ensures shown { IsScaledTerms shown.now }
     {
         shown.len() == 0
             || (self.terms.len() + shown.len() <= self.term_room
@@ -176,6 +177,7 @@ impl Records {
         requires kept { AreKept self.old }
         requires inside { node < vec_len self.old.spans }
         ensures room { result ≡ finds_room self.old.term_room (book_of self.old) shown.now.terms }
+        ensures shown { IsScaledTerms shown.now }
         ensures taken { IsTakenOrKept result (book_of self.old) node shown.now (book_of self.new) }
         ensures kept { AreKept self.new }
         ensures term_room { self.new.term_room ≡ self.old.term_room }

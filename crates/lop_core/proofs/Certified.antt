@@ -118,15 +118,15 @@ module _ (C : Matrix) (rec : ℕ → ScaledTerms) (nodes : List SearchNode) (n :
       in_turn : (xs : List SearchNode) (x y : SearchNode) → (xs ++ x ∷ []) ++ y ∷ [] ≡ xs ++ x ∷ y ∷ []
       in_turn xs x y = append_assoc xs (x ∷ []) (y ∷ [])
 
+  longer : (p : Pair) → length (changed nodes n bound (Split (length nodes)) ++ child n p bound ∷ child n (reversed p) bound ∷ []) ≡ length nodes + 2
+  longer p = length-append (changed nodes n bound (Split (length nodes))) (child n p bound ∷ child n (reversed p) bound ∷ []) ∙ ap (λ (k : ℕ). k + 2) (length-set nodes n _)
+
   pub certified_settled : (pair : Option Pair) → IfSome pair (λ p. IsUndecided C.size (path_of nodes n) p.before p.after)
       → (length (settled_nodes nodes n bound best pair) ≡ length nodes + 2 → (rec (length nodes) ≡ rec n) × (rec (length nodes + 1) ≡ rec n)) → HaveCertified C rec (settled_nodes nodes n bound best pair)
   certified_settled None u h = when_closed
   certified_settled (Some p) u h = go (int_lt best bound) refl where
     go : (b : Bool) → b ≡ int_lt best bound → HaveCertified C rec (if b then divided (record { nodes = nodes; best = best; evaluated = 0 }) n bound best p else closed (record { nodes = nodes; best = best; evaluated = 0 }) n bound best).nodes
     go true e =
-        let both = h (ap (λ (b : Bool). length (if b then divided (record { nodes = nodes; best = best; evaluated = 0 }) n bound best p else closed (record { nodes = nodes; best = best; evaluated = 0 }) n bound best).nodes) (sym e) ∙ longer) in
+        let both = h (ap (λ (b : Bool). length (if b then divided (record { nodes = nodes; best = best; evaluated = 0 }) n bound best p else closed (record { nodes = nodes; best = best; evaluated = 0 }) n bound best).nodes) (sym e) ∙ longer p) in
         when_divided p u both.0 both.1
     go false e = when_closed
-
-    longer : length (changed nodes n bound (Split (length nodes)) ++ child n p bound ∷ child n (reversed p) bound ∷ []) ≡ length nodes + 2
-    longer = length-append (changed nodes n bound (Split (length nodes))) (child n p bound ∷ child n (reversed p) bound ∷ []) ∙ ap (λ (k : ℕ). k + 2) (length-set nodes n _)

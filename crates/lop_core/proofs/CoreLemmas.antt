@@ -1,6 +1,6 @@
 -- A core keeps its history over a take and a report, and it has room for the entry and the nodes.
 use Rattle.std.proofs.Common.{◌≡◌, ℕ, ◌+◌, ◌*◌, ◌<◌, ◌≤◌, List, [], ◌∷◌, ◌++◌, length, get_or, set, arith, sym, ◌∙◌, Some, None, Option, refl, ap, subst, Bool, true, false}
-use Rattle.std.proofs.lemmas.List.{get_or_read, length_push}
+use Rattle.std.proofs.lemmas.List.{get_or_read, get_or_default, length_push}
 use Rattle.std.proofs.lemmas.Option.{slice_get_read, get_or_from_slice_get, slice_get_within}
 use Rattle.std.specs.Prelude.{slice_get, ℤ, pos, ◌≤ℤ◌, fold, int_lt, IfSome, IfNone, if◌then◌else◌, ◌↔◌}
 use Rattle.std.specs.Int.{int_max}
@@ -10,7 +10,7 @@ use Rattle.lop_model.specs.Order.{IsOrder}
 use Rattle.lop_model.specs.Matrix.{Matrix, weight}
 use Rattle.lop_model.specs.Fixings.{IsClosure, IsUndecided, IsBranchingPath, AreAllDecided}
 use Rattle.lop_model.specs.Bound.{pair_bound}
-use Rattle.lop_core.specs.Records.{RecordBook, IsRecordBook, record_at, scaled_of, finds_room, term_room}
+use Rattle.lop_core.specs.Records.{RecordBook, IsRecordBook, record_at, scaled_of, finds_room, term_room, IsTakenOrKept}
 use Rattle.lop_leaf.specs.Record.{ScaledTerms, no_terms, IsScaledTerms, HasCutsBelow}
 use Rattle.lop_leaf.specs.Ticket.{TicketFields, pair_count}
 use Rattle.lop_leaf.specs.Bound.{CertifiesUnder}
@@ -34,7 +34,7 @@ use Rattle.lop_core.proofs.Fates.{out_exactly}
 use Rattle.lop_core.proofs.Sound.{count_changed, one_if}
 use Rattle.lop_core.proofs.PathRoom.{length-branching}
 use Rattle.lop_core.proofs.Certified.{certified_root}
-use Rattle.lop_core.proofs.BookLemmas.{refused_late, without_terms_found, cuts_below}
+use Rattle.lop_core.proofs.BookLemmas.{refused_late, without_terms_found, cuts_below, TakenFacts, facts_of, GrownBook, report_recorded, rooms_after}
 use Rattle.lop_core.proofs.Counts.{counted}
 
 -- what holds of the counts of a core
@@ -253,6 +253,44 @@ leaves_by view w found nodes best journal order n zb zk zv zbest p seen room en 
   journal_is = rw (en, eb, ep, ev, er) at hj;
   order_is = rw (ev, eo) at ho;
 }
+
+-- the bound that the code passes on
+pub kept_is : (view : CoreFields) (found : EvaluatedFields) (room : Bool) (b k : ℤ) (n : ℕ) (seen : SearchNode) → room ≡ has_room_for view found → b ≡ found.bound → k ≡ seen.bound → n ≡ found.node → seen ≡ get_or view.state.nodes n seen → n < length view.state.nodes
+    → (if room then b else k) ≡ kept_bound view found
+kept_is view found room b k n seen er eb ek en is lt =
+    let at : seen ≡ node_at view.state.nodes n = is ∙ get_or_default view.state.nodes n seen (child 0 no_pair (pos 0)) lt in
+    ap (λ (z : ℤ). if room then b else z) ek
+    ∙ ap (λ (r : Bool). if r then b else seen.bound) er
+    ∙ ap (λ (z : ℤ). if has_room_for view found then z else seen.bound) eb
+    ∙ ap (λ (m : SearchNode). if has_room_for view found then found.bound else m.bound) (at ∙ ap (node_at view.state.nodes) en)
+
+-- the answer on the room that the code passes on
+pub room_is : (view : CoreFields) (found : EvaluatedFields) (room : Bool) (places : ℕ) (shown : ScaledTerms) → room ≡ finds_room places view.book shown.terms → places ≡ term_room view.problem.budget → shown ≡ found.shown → room ≡ has_room_for view found
+room_is view found room places shown e ep es = e ∙ ap (λ k. finds_room k view.book shown.terms) ep ∙ ap (λ (r : ScaledTerms). finds_room (term_room view.problem.budget) view.book r.terms) es
+
+-- what was taken in, by the node and the record of the result
+pub taken_is : (old mid : RecordBook) (room room' : Bool) (node node' : ℕ) (shown shown' : ScaledTerms) → room ≡ room' → node ≡ node' → shown ≡ shown' → IsTakenOrKept room old node shown mid → IsTakenOrKept room' old node' shown' mid
+taken_is old mid room room' node node' shown shown' er en es taken = rw (er, en, es) at taken
+
+-- the facts of the book after the record was taken in or refused
+pub report_facts : (view : CoreFields) (found : EvaluatedFields) (mid : RecordBook) → HasHistory view → AreRecorded view → IsRecordBook view.book → found.node < length view.state.nodes → IsSoundReport view found → IsScaledTerms found.shown
+    → IsTakenOrKept (has_room_for view found) view.book found.node found.shown mid → TakenFacts view found.node (kept_bound view found) (room_count view.journal + (if has_room_for view found then 1 else 0)) mid
+report_facts view found mid h rec book inside sound few taken =
+    facts_of view rec book found.node inside found (room_count view.journal + (if has_room_for view found then 1 else 0)) mid (has_room_for view found) refl taken few.bounded_count sound.sound.cuts.fit (reported_certified view found sound)
+
+pub if_some : {X P : Type 0} (o : Option X) → P → IfSome o (λ _. P)
+if_some None p = tt
+if_some (Some x) p = p
+
+-- the laws of the records after a report
+pub report_laws : (view new : CoreFields) (w : ℕ) (found : EvaluatedFields) (best : ℤ) (mid : RecordBook) (split : Option ℕ) (nodes : List SearchNode) → HasHistory view → AreRecorded view → IsRecordBook view.book → IsOutTo view.state w found.node
+    → IsSoundReport view found → IsScaledTerms found.shown → IsTakenOrKept (has_room_for view found) view.book found.node found.shown mid → nodes ≡ settled_nodes view.state.nodes found.node (kept_bound view found) best found.pair
+    → GrownBook view.state.nodes mid found.node split nodes new.book → new.problem.weights ≡ view.problem.weights → new.state.nodes ≡ nodes → new.journal ≡ view.journal ++ entry_of view w found ∷ [] → AreRecorded new
+report_laws view new w found best mid split nodes h rec book out sound few taken settled grown ew en ej =
+    let inside : found.node < length view.state.nodes = slice_get_within view.state.nodes found.node out.0 out.1 in
+    report_recorded view found.node (kept_bound view found) best (room_count view.journal + (if has_room_for view found then 1 else 0)) mid new.book split found.pair nodes new rec
+    (report_facts view found mid h rec book inside sound few taken) inside (core_branching view h found.node inside) (reported_undecided view found sound) settled grown ew en refl
+    (rooms_after view.journal new.journal w found.node found.bound found.pair found.value (has_room_for view found) ej)
 
 module _ (view : CoreFields) (w : ℕ) (found : EvaluatedFields) (nodes : List SearchNode) (best : ℤ) (journal : List Entry) (order : List ℕ) (leaves : Leaves view w found nodes best journal order) where
   left_order : order ≡ better_of view found

@@ -198,12 +198,12 @@ report_effect : (problem : Problem) (journal : List Entry) (w n : ℕ) (bound : 
 unfolding after
 report_effect problem journal w n bound pair value room may =
     settled_effect (replay problem journal) n may.is_out.0 (if room then bound else (node_at (replay problem journal).nodes n).bound) (int_max (replay problem journal).best value) pair may.is_out.1
-    (le_max (replay problem journal).best value) (low pair may.all_decided)
+    (le_max (replay problem journal).best value) (low pair may.all_decided may.decided_room)
   where
     low : (p : Option Pair) → IfNone p (AreAllDecided problem.weights.size (path_of (replay problem journal).nodes n) × (value ≡ bound))
-        → IfNone p ((if room then bound else (node_at (replay problem journal).nodes n).bound) ≤ℤ int_max (replay problem journal).best value)
-    low None h = rw may.with_room (subst (λ (b : ℤ). b ≤ℤ int_max (replay problem journal).best value) h.1 (omega (arith, ints, clamps)))
-    low (Some p) h = h
+        → IfNone p (room ≡ true) → IfNone p ((if room then bound else (node_at (replay problem journal).nodes n).bound) ≤ℤ int_max (replay problem journal).best value)
+    low None h k = rw k (subst (λ (b : ℤ). b ≤ℤ int_max (replay problem journal).best value) h.1 (omega (arith, ints, clamps)))
+    low (Some p) h k = h
 
 take_effect : (problem : Problem) (s : SearchState) (w n : ℕ) → MayTake problem s n → Effect s.nodes (after s (Take w n)).nodes s.best (after s (Take w n)).best n
 unfolding after

@@ -1,5 +1,5 @@
 -- What one worker meets that works alone, and what is known once it ends.
-use Rattle.std.proofs.Common.{◌≡◌, ℕ, ◌+◌, ◌≤◌, List, [], ◌∷◌, ◌++◌, length, ◌⊎◌, inl, inr, arith, sym, ◌∙◌, Some, refl, ap, subst, Bool, true, false}
+use Rattle.std.proofs.Common.{◌≡◌, ℕ, ◌+◌, List, [], ◌∷◌, ◌++◌, length, inl, inr, arith, sym, ◌∙◌, Some, refl, ap, subst, Bool, true, false}
 use Rattle.std.specs.Prelude.{slice_get, ℤ, pos, ◌<ℤ◌, ◌≤ℤ◌, count_by, int_lt}
 use Rattle.std.proofs.lemmas.Int.{ints}
 use Rattle.std.proofs.lemmas.List.{length_push}
@@ -24,7 +24,7 @@ use Rattle.lop_core.specs.Outcome.{IsFinished, IsOutcome}
 use Rattle.lop_core.proofs.Sound.{one_if, count_changed}
 use Rattle.lop_core.proofs.Replay.{raised-le}
 use Rattle.lop_core.proofs.CoreLemmas.{core_counted}
-use Rattle.lop_core.proofs.Monotone.{AreWithin, state_bound_within}
+use Rattle.lop_core.proofs.Monotone.{state_bound_within}
 
 -- after a take and its report one node more is evaluated, and as many are out as before
 pub turn_counts : (old new : CoreFields) (t r : Entry) → HasHistory old → HasHistory new → new.problem ≡ old.problem → new.journal ≡ (old.journal ++ t ∷ []) ++ r ∷ [] → is_report t ≡ false → is_report r ≡ true

@@ -1,11 +1,10 @@
 -- The records of a core: what a report leaves of them, and when a record is refused.
-use Rattle.std.proofs.Common.{◌≡◌, ◌≢◌, ℕ, ◌+◌, ◌*◌, ◌/◌, ◌<◌, ◌≤◌, min, List, [], ◌∷◌, ◌++◌, length, get_or, set, map, inl, inr, arith, sym, ◌∙◌, refl, ap, subst, Bool, true, false, cond, eqb, leb, ◌&&◌, ◌||◌, Some, None, Option, length-set, length-append}
-use Rattle.std.specs.Prelude.{ℤ, pos, ◌-ℤ◌, ◌*ℤ◌, ◌+ℤ◌, IfSome, IfNone, if◌then◌else◌, filter, count_by, sum_by, All, IsPermutation}
+use Rattle.std.proofs.Common.{◌≡◌, ◌≢◌, ℕ, ◌+◌, ◌*◌, ◌/◌, ◌<◌, ◌≤◌, min, List, [], ◌∷◌, ◌++◌, length, get_or, arith, sym, ◌∙◌, refl, ap, subst, Bool, true, false, cond, eqb, leb, ◌&&◌, ◌||◌, Some, None, Option, length-set, length-append}
+use Rattle.std.specs.Prelude.{ℤ, pos, ◌-ℤ◌, ◌*ℤ◌, ◌+ℤ◌, IfSome, IfNone, if◌then◌else◌, filter, count_by, All, IsPermutation}
 use Rattle.std.specs.Int.{int_max}
 use Rattle.std.proofs.lemmas.Bool.Decides.{nat_tests}
-use Rattle.std.proofs.lemmas.Bool.{cases_eq}
 use Rattle.std.proofs.lemmas.List.{length-map, get_or-set_other, get_or_append_left}
-use Rattle.std.proofs.lemmas.List.Elements.{All-map, All-filter, All-append, All-weaker}
+use Rattle.std.proofs.lemmas.List.Elements.{All-map, All-filter, All-append}
 use Rattle.std.proofs.lemmas.List.Sums.{length-filter, count_by-le-length, sum_by_push}
 use Rattle.std.proofs.lemmas.List.Sorted.{sum_by-IsPermutation}
 use Rattle.lop_model.specs.declared.pair.Pair.{Pair}
@@ -21,7 +20,7 @@ use Rattle.lop_leaf.specs.Record.{ScaledTerms, no_terms, HasCutsBelow, FitTerms}
 use Rattle.lop_leaf.specs.Bound.{CertifiesUnder}
 use Rattle.lop_core.specs.declared.node.SearchNode.{SearchNode}
 use Rattle.lop_core.specs.declared.records.NumberedTerm.{NumberedTerm}
-use Rattle.lop_core.specs.Records.{NodeRecord, RecordBook, empty_record, cut_at, record_at, terms_of, scaled_of, is_new, new_cuts, finds_room, term_room, IsNodeRecord, IsRecordBook, IsNumbered, IsTakenIn, IsTakenOrKept, with_children}
+use Rattle.lop_core.specs.Records.{NodeRecord, RecordBook, empty_record, cut_at, record_at, terms_of, scaled_of, is_new, new_cuts, finds_room, term_room, IsNodeRecord, IsRecordBook, IsTakenIn, IsTakenOrKept, with_children}
 use Rattle.lop_core.specs.declared.node.Standing.TheVariants.{Out}
 use Rattle.lop_core.specs.declared.journal.Entry.{Entry}
 use Rattle.lop_core.specs.declared.journal.Entry.TheVariants.{Take, Report}

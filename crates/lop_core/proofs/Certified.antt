@@ -13,7 +13,7 @@ use Rattle.std.proofs.Math.IntN.{suc_ℤ-*ℤ, zero-*ℤ}
 use Rattle.lop_model.proofs.ClosureLemmas.{IsClosure-none}
 use Rattle.lop_cuts.specs.Lagrangian.{lagrangian_value}
 use Rattle.lop_cuts.proofs.LagrangianLemmas.{lagrangian_value-plain}
-use Rattle.lop_leaf.specs.Record.{ScaledTerms, no_terms}
+use Rattle.lop_leaf.specs.Record.{ScaledTerms}
 use Rattle.lop_leaf.specs.Bound.{CertifiesUnder}
 use Rattle.lop_leaf.proofs.PathLemmas.{CertifiesUnder-more, has_pair-closures}
 use Rattle.lop_core.specs.declared.node.SearchNode.{SearchNode}
@@ -21,7 +21,6 @@ use Rattle.lop_core.specs.declared.node.Standing.{Standing}
 use Rattle.lop_core.specs.declared.node.Standing.TheVariants.{Idle, Split}
 use Rattle.lop_core.specs.Tree.{no_pair, reversed, child, node_at, path_of, paths}
 use Rattle.lop_core.specs.Machine.{changed, settled_nodes, divided, closed}
-use Rattle.lop_core.specs.Records.{empty_record}
 use Rattle.lop_core.specs.Core.{AreCertified, root_book}
 use Rattle.lop_core.proofs.ExtensionLemmas.{reversed_undecided, IsBranchingPath-push}
 use Rattle.lop_core.proofs.TreeLemmas.{paths-changed, path_of_push_old, path_of_push_new}

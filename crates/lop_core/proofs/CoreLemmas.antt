@@ -11,10 +11,9 @@ use Rattle.lop_model.specs.Matrix.{Matrix, weight}
 use Rattle.lop_model.specs.Fixings.{IsClosure, IsUndecided, IsBranchingPath, AreAllDecided}
 use Rattle.lop_model.specs.Bound.{pair_bound}
 use Rattle.lop_core.specs.Records.{RecordBook, IsRecordBook, record_at, scaled_of, finds_room, term_room, IsTakenOrKept}
-use Rattle.lop_leaf.specs.Record.{ScaledTerms, no_terms, IsScaledTerms, HasCutsBelow}
+use Rattle.lop_leaf.specs.Record.{ScaledTerms, IsScaledTerms}
 use Rattle.lop_leaf.specs.Ticket.{TicketFields, pair_count}
 use Rattle.lop_leaf.specs.Bound.{CertifiesUnder}
-use Rattle.lop_leaf.specs.Packing.{packing_bound}
 use Rattle.lop_leaf.specs.Sound.{IsDecidedResult}
 use Rattle.lop_leaf.proofs.PathLemmas.{weight-le-certified_under, CertifiesUnder-result}
 use Rattle.lop_core.proofs.Lists.{EachFollows-nil, slice_get-set_same}
@@ -27,8 +26,8 @@ use Rattle.lop_core.specs.declared.node.Standing.TheVariants.{Idle, Out}
 use Rattle.lop_leaf.specs.Evaluated.{EvaluatedFields}
 use Rattle.lop_core.specs.Tree.{no_pair, child, node_at, path_of, is_out, out_count, IsCoveredOnce}
 use Rattle.lop_core.specs.Machine.{Problem, SearchState, changed, after, settled, divided, closed, settled_nodes, IsOutTo, IsReady, IsLive, IsFirstReady, raised_by, state_bound}
-use Rattle.lop_core.specs.Journal.{AreCounted, room_count, sure_rooms, IsWithinPackingBound, MayTake, MayReport, MayFollow, HasTake, HasReport, entries_of}
-use Rattle.lop_core.specs.Core.{CoreFields, prepared, root_book, HasHistory, AreCertified, AreRecorded, with_entry, IsTicketOf, IsHandedOut, IsSoundReport, ticket_of, has_room_for, entry_of, KeepsOrder}
+use Rattle.lop_core.specs.Journal.{AreCounted, room_count, IsWithinPackingBound, MayTake, MayReport, MayFollow, HasTake, HasReport, entries_of}
+use Rattle.lop_core.specs.Core.{CoreFields, prepared, root_book, HasHistory, AreRecorded, with_entry, IsTicketOf, IsHandedOut, IsSoundReport, ticket_of, has_room_for, entry_of, KeepsOrder}
 use Rattle.lop_core.proofs.Replay.{replay_push, IsLawful_push, sound_replay, covered_once, weight-le-state_bound}
 use Rattle.lop_core.proofs.Fates.{out_exactly}
 use Rattle.lop_core.proofs.Sound.{count_changed, one_if}

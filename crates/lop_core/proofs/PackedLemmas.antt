@@ -1,5 +1,5 @@
 -- No order weighs more than the packing bound with nothing fixed.
-use Rattle.std.proofs.Common.{◌≡◌, ◌≢◌, ℕ, zero, suc, ◌+◌, ◌-◌, ◌<◌, Bool, true, false, cond, eqb, ltb, ◌&&◌, List, [], ◌∷◌, ◌++◌, length, refl, sym, ◌∙◌, subst, arith, ℤ, pos, ◌+ℤ◌, ◌*ℤ◌, ◌≤ℤ◌}
+use Rattle.std.proofs.Common.{◌≡◌, ◌≢◌, ℕ, ◌+◌, ◌-◌, ◌<◌, Bool, true, false, cond, ltb, ◌&&◌, List, [], ◌∷◌, ◌++◌, length, refl, subst, arith, ℤ, pos, ◌+ℤ◌, ◌*ℤ◌, ◌≤ℤ◌}
 use Rattle.std.specs.Prelude.{All, nat_eq}
 use Rattle.std.specs.List.{IsDistinct}
 use Rattle.std.proofs.Math.IntN.{suc_ℤ-*ℤ, zero-*ℤ}
@@ -13,7 +13,7 @@ use Rattle.lop_model.proofs.BoundLemmas.{IsLinearExtension-none}
 use Rattle.lop_cuts.specs.Kind.{IsCut}
 use Rattle.lop_cuts.specs.Lagrangian.{Term, reduced_entry, lagrangian_value}
 use Rattle.lop_cuts.proofs.LagrangianLemmas.{AreValid-AreCuts, weight-le-lagrangian_value}
-use Rattle.lop_leaf.specs.Packing.{cycle_margin, dicycle, pack_cycle, pack_triple, pack_pair, pack_object, packed_terms, packing_bound, in_turn}
+use Rattle.lop_leaf.specs.Packing.{cycle_margin, dicycle, pack_cycle, pack_triple, pack_pair, pack_object, packed_terms, packing_bound}
 use Rattle.lop_leaf.proofs.PackingValue.{in_turn-keeps, packing_bound-shown}
 
 -- each term's cut is one

@@ -1,12 +1,11 @@
 -- Records by the numbers of their cuts: what a new record leaves of the list of cuts and of the other records.
-use Rattle.std.proofs.Common.{◌≡◌, ◌≢◌, ℕ, ◌+◌, ◌-◌, ◌<◌, ◌≤◌, List, [], ◌∷◌, ◌++◌, length, get_or, set, take, drop, inl, inr, arith, sym, ◌∙◌, refl, ap, subst, Bool, true, false, not, ◌||◌, ◌&&◌, leb, suc, zero, map, eqb, append_assoc, append-nil}
-use Rattle.std.specs.Prelude.{IsTrue, if◌then◌else◌, filter, count_by, All, AllPairs, IsPermutation}
+use Rattle.std.proofs.Common.{◌≡◌, ◌≢◌, ℕ, ◌+◌, ◌-◌, ◌<◌, ◌≤◌, List, [], ◌∷◌, ◌++◌, length, get_or, set, take, drop, arith, sym, ◌∙◌, refl, ap, subst, Bool, true, false, not, ◌||◌, ◌&&◌, leb, map, eqb, append_assoc, append-nil}
+use Rattle.std.specs.Prelude.{if◌then◌else◌, filter, count_by, All, AllPairs, IsPermutation}
 use Rattle.std.specs.List.{list_any, IsDistinct}
 use Rattle.std.specs.List.Sorted.{IsNonDecreasingBy}
-use Rattle.std.proofs.lemmas.Bool.{cases_lt, cases_eq}
-use Rattle.std.proofs.lemmas.Bool.Decides.{nat_tests, Decides-eqb}
-use Rattle.std.proofs.lemmas.List.{length_push, get_or_append_left, get_or_push, get_or_default, get_or-map, get_or-take, map-append, map-set, length-map, length-append, take_all, take_at, take_more, drop_at, take-append-le, drop-append-le, length-drop, length-take-le, get_or-set_same}
-use Rattle.std.proofs.lemmas.List.Elements.{All-nil, All-head, All-tail, All-map, All-filter, All-push, All-weaker, All-take, All-set, filter_more}
+use Rattle.std.proofs.lemmas.Bool.Decides.{nat_tests}
+use Rattle.std.proofs.lemmas.List.{length_push, get_or_append_left, get_or_default, get_or-map, get_or-take, map-append, map-set, length-map, length-append, take_all, take_more, drop_at, take-append-le, drop-append-le, length-drop, length-take-le, get_or-set_same}
+use Rattle.std.proofs.lemmas.List.Elements.{All-head, All-tail, All-map, All-filter, All-push, All-weaker, All-set, filter_more}
 use Rattle.std.proofs.lemmas.List.Folds.{list_any-append, list_any_none}
 use Rattle.std.proofs.lemmas.List.Sums.{length-filter, sum_by-take-le}
 use Rattle.std.proofs.lemmas.List.Sorted.{length_permutation, IsPermutation-map, All-permutation}
@@ -17,7 +16,7 @@ use Rattle.lop_cuts.specs.Lagrangian.{Term}
 use Rattle.lop_leaf.specs.Record.{ScaledTerms, IsScaledTerms, IsMultiplier}
 use Rattle.lop_core.specs.declared.records.NumberedTerm.{NumberedTerm}
 use Rattle.lop_core.specs.declared.records.Span.{Span}
-use Rattle.lop_core.specs.Records.{NodeRecord, RecordBook, AreDifferentCuts, IsRecordBook, IsNumbered, IsTakenIn, empty_record, record_at, cut_at, terms_of, same_cut, is_new, new_cuts, IsNodeRecord}
+use Rattle.lop_core.specs.Records.{NodeRecord, AreDifferentCuts, IsRecordBook, IsNumbered, IsTakenIn, empty_record, record_at, cut_at, terms_of, same_cut, is_new, new_cuts, IsNodeRecord}
 use Rattle.lop_core.specs.CutIndex.{IsNumberOf}
 use Rattle.lop_core.specs.Kept.{record_of}
 use Rattle.lop_core.proofs.CutIndexLemmas.{same_cut-Decides}

@@ -1,5 +1,5 @@
 -- The records of the nodes: terms by the numbers of their cuts, which stand in one list.
-use Rattle.std.specs.Prelude.{◌≡◌, ◌≢◌, ℕ, ◌+◌, ◌*◌, ◌<◌, ◌≤◌, List, [], ◌∷◌, ◌++◌, length, map, filter, count_by, slice_index_or, slice_set, All, AllPairs, Bool, true, false, not, nat_le, ◌==◌, ◌&&◌, ◌||◌, min, IsPermutation}
+use Rattle.std.specs.Prelude.{◌≡◌, ◌≢◌, ℕ, ◌+◌, ◌*◌, ◌<◌, ◌≤◌, List, [], ◌∷◌, ◌++◌, length, map, filter, slice_index_or, slice_set, All, AllPairs, Bool, true, false, not, nat_le, ◌==◌, ◌&&◌, ◌||◌, min, IsPermutation}
 use Rattle.std.specs.List.{list_any}
 use Rattle.lop_cuts.specs.declared.kind.CutKind.{CutKind}
 use Rattle.lop_cuts.specs.declared.kind.CutKind.TheVariants.{Dicycle}

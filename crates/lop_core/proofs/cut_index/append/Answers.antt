@@ -1,6 +1,6 @@
-use Rattle.std.proofs.Common.{◌≡◌, ◌∷◌, ◌++◌, [], length, sym, ◌∙◌, ap, subst, arith, cond, true}
-use Rattle.std.specs.Prelude.{is_ok, vec_capacity}
-use Rattle.lop_core.proofs.CutIndexLemmas.{IsCutIndex-longer, longer_is}
+use Rattle.std.proofs.Common.{arith}
+use Rattle.std.specs.Prelude.{is_ok}
+use Rattle.lop_core.proofs.CutIndexLemmas.{longer_is}
 use Rattle.lop_core.proofs.cut_index.append.Goals as goal
 
 pub returns-clause-index : goal.returns-clause-index

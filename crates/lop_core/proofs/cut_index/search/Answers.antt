@@ -1,7 +1,5 @@
-use Rattle.std.proofs.Common.{◌≡◌, ◌+◌, ◌-◌, ◌/◌, ◌<◌, length, get_or, sym, ◌∙◌, ap, arith}
+use Rattle.std.proofs.Common.{◌+◌, ◌-◌, ◌/◌, ◌<◌, length, get_or, sym, ◌∙◌, arith}
 use Rattle.std.specs.declared.cmp.Ordering.TheVariants.{Less, Greater}
-use Rattle.lop_core.specs.Records.{cut_at}
-use Rattle.lop_core.specs.CutIndex.{cut_order}
 use Rattle.lop_core.proofs.CutIndexLemmas.{less_below, greater_above, seen_order}
 use Rattle.lop_core.proofs.cut_index.search.Goals as goal
 

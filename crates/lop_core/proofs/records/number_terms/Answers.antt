@@ -1,5 +1,4 @@
-use Rattle.std.proofs.Common.{◌≡◌, ◌<◌, ◌≤◌, ◌++◌, ◌∷◌, [], length, get_or, sym, ◌∙◌, ap, subst, arith}
-use Rattle.lop_cuts.specs.Lagrangian.{Term}
+use Rattle.std.proofs.Common.{◌<◌, length, arith}
 use Rattle.lop_core.proofs.RecordLemmas.{room_for_one, cuts_step, terms_step, read_term}
 use Rattle.lop_core.proofs.records.number_terms.Goals as goal
 

@@ -1,4 +1,4 @@
-use Rattle.std.proofs.Common.{◌≡◌, [], List, rules, FitsSigned, sym, ◌∙◌, ap}
+use Rattle.std.proofs.Common.{[], List, rules, FitsSigned, ◌∙◌, ap}
 use Rattle.std.proofs.lemmas.Int.{to_z-of_z}
 use mir.Syntax.{w128}
 use Rattle.lop_model.specs.declared.pair.Pair.{Pair}

@@ -1,4 +1,3 @@
-use Rattle.std.proofs.Common.{◌≡◌, sym}
 use Rattle.lop_core.proofs.CutIndexLemmas.{missed}
 use Rattle.lop_core.proofs.cut_index.CutIndex.misses.Goals as goal
 

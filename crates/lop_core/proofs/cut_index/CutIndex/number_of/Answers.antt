@@ -1,8 +1,7 @@
-use Rattle.std.proofs.Common.{◌≡◌, ◌<◌, ◌∷◌, ◌++◌, [], List, length, true, sym, ◌∙◌, ap, subst, arith, refl, ◌+◌}
+use Rattle.std.proofs.Common.{◌≡◌, ◌<◌, List, length, true, sym, ◌∙◌, ap, subst, arith, refl, ◌+◌}
 use Rattle.std.proofs.lemmas.List.{length_push}
 use Rattle.lop_cuts.specs.declared.kind.CutKind.{CutKind}
 use Rattle.lop_core.specs.Records.{is_new, AreDifferentCuts}
-use Rattle.lop_core.specs.CutIndex.{IsGap, IsNumberOf}
 use Rattle.lop_core.proofs.CutIndexLemmas.{gap_new, gap_absent, number_not_new, AreDifferentCuts-push}
 use Rattle.lop_core.proofs.cut_index.CutIndex.number_of.Goals as goal
 

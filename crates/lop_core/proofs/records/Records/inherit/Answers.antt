@@ -1,4 +1,4 @@
-use Rattle.std.proofs.Common.{◌≡◌, ◌≤◌, ◌+◌, ◌∷◌, ◌++◌, [], length, get_or, sym, ◌∙◌, ap, subst, arith, map}
+use Rattle.std.proofs.Common.{arith}
 use Rattle.lop_core.proofs.RecordLemmas.{inherited_kept}
 use Rattle.lop_core.proofs.records.Records.inherit.Goals as goal
 

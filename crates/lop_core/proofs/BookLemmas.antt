@@ -146,8 +146,8 @@ module _ (view : CoreFields) (rec : AreRecorded view) (book : IsRecordBook view.
             ap (λ (rs : List NodeRecord). record_at rs i) taken.others ∙ get_or-set_other view.book.records node i (record_at mid.records node) empty_record ne in
             let is : IsNodeRecord (length view.book.cuts) (record_at view.book.records i) = book.each i empty_record there in
             ap (scaled_of mid.cuts) same
-                ∙ ap (λ (cs : List CutKind). scaled_of cs (record_at view.book.records i)) taken.cuts
-                ∙ ap (λ (ts : List Term). record { scale = (record_at view.book.records i).scale; terms = ts }) (terms_of-longer view.book.cuts (new_cuts view.book.cuts found.shown.terms) (record_at view.book.records i).terms is.listed);
+            ∙ ap (λ (cs : List CutKind). scaled_of cs (record_at view.book.records i)) taken.cuts
+            ∙ ap (λ (ts : List Term). record { scale = (record_at view.book.records i).scale; terms = ts }) (terms_of-longer view.book.cuts (new_cuts view.book.cuts found.shown.terms) (record_at view.book.records i).terms is.listed);
         own = CertifiesUnder-permuted view.problem.weights (path_of view.state.nodes node) found.shown (scaled_of mid.cuts (record_at mid.records node)) found.bound taken.own.scale taken.own.terms certified;
         fit = subst (λ (cs : List CutKind). All (FitsCut view.problem.weights.size) cs) (sym taken.cuts)
             (All-append (FitsCut view.problem.weights.size) view.book.cuts (new_cuts view.book.cuts found.shown.terms) rec.fit

@@ -151,7 +151,7 @@ numbers_differ cuts fresh different = IsDistinct-from_apart eqb (map (λ (t : Nu
     let cut_i : get_or (terms_of cuts fresh) i (look e) ≡ look (get_or fresh i e) = get_or-map look fresh i e (look e) (omega arith) in
     let cut_j : get_or (terms_of cuts fresh) j (look e) ≡ look (get_or fresh j e) = get_or-map look fresh j e (look e) inside in
     let apart : (get_or fresh i e).cut ≢ (get_or fresh j e).cut = λ same.
-        different i j (look e) lt (omega arith) (ap (λ (t : Term). t.cut) cut_i ∙ ap (cut_at cuts) same ∙ ap (λ (t : Term). t.cut) (sym cut_j)) in
+    different i j (look e) lt (omega arith) (ap (λ (t : Term). t.cut) cut_i ∙ ap (cut_at cuts) same ∙ ap (λ (t : Term). t.cut) (sym cut_j)) in
     rw (at_i, at_j) (unequal _ _ apart))
   where
     unequal : (x y : ℕ) → x ≢ y → eqb x y ≡ false

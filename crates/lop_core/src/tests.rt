@@ -112,10 +112,7 @@ fn three_fence(alloc: Global, budget: u32) -> Result<Option<(Core, Order)>, Fail
     };
     match Weights::new(6, entries.to_vec(alloc)?) {
         Ok(weights) if order.n() == weights.n() && budget >= 1 && budget <= 1_000_000 => {
-            Ok(Some((
-                Core::prepare(alloc, &weights, &order, budget)?,
-                order,
-            )))
+            Ok(Some((Core::prepare(alloc, &weights, &order, budget)?, order)))
         }
         _ => Ok(None),
     }

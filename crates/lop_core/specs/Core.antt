@@ -1,11 +1,12 @@
 -- What contracts see of a core, what is true of it, and its steps.
-use Rattle.std.specs.Prelude.{◌≡◌, ℕ, ◌+◌, ◌*◌, ◌<◌, ◌≤◌, ◌<ℤ◌, ◌≤ℤ◌, List, [], ◌∷◌, ◌++◌, length, true}
+use Rattle.std.specs.Prelude.{◌≡◌, ℕ, ◌+◌, ◌*◌, ◌<◌, ◌≤◌, ◌<ℤ◌, ◌≤ℤ◌, List, [], ◌∷◌, ◌++◌, length, All, Bool}
 use Rattle.lop_model.specs.Order.{IsOrder}
 use Rattle.lop_model.specs.Matrix.{Matrix, weight}
-use Rattle.lop_leaf.specs.Record.{no_terms}
+use Rattle.lop_cuts.specs.Kind.{FitsCut}
+use Rattle.lop_leaf.specs.Bound.{CertifiesUnder}
 use Rattle.lop_leaf.specs.Ticket.{TicketFields, pair_count}
 use Rattle.lop_leaf.specs.Evaluated.{EvaluatedFields}
-use Rattle.lop_leaf.specs.Sound.{Certifies, IsSoundTicket, IsSoundResult}
+use Rattle.lop_leaf.specs.Sound.{IsSoundTicket, IsSoundResult}
 use Rattle.lop_core.specs.declared.node.SearchNode.{SearchNode}
 use Rattle.lop_core.specs.declared.node.NodeView.{NodeView}
 use Rattle.lop_core.specs.declared.journal.Entry.{Entry}
@@ -15,15 +16,17 @@ use Rattle.lop_core.specs.declared.reply.TakeReply.TheVariants.{Node, Done, AllO
 use Rattle.lop_core.specs.declared.reply.ReportReply.{ReportReply}
 use Rattle.lop_core.specs.declared.reply.ReportReply.TheVariants.{Closed, Split, NotYours}
 use Rattle.lop_core.specs.Tree.{node_at, path_of, out_count}
+use Rattle.lop_core.specs.Records.{NodeRecord, RecordBook, empty_record, record_at, scaled_of, term_room, finds_room, IsTakenOrKept, with_children}
 use Rattle.lop_core.specs.Machine.{Problem, SearchState, root_state, after, IsOutTo, IsLive, IsReady, IsFirstReady}
-use Rattle.lop_core.specs.Journal.{replay, MayTake, IsLawfulJournal}
+use Rattle.lop_core.specs.Journal.{replay, room_count, MayTake, IsLawfulJournal}
 
--- a core as contracts see it: its problem and state, the journal of how it came about, and the order that weighs as much as best
+-- a core as contracts see it: its problem and state, the journal of how it came about, the order that weighs as much as best, and the records of the nodes
 pub record CoreFields : Type 0 where
   pub problem : Problem
   pub state : SearchState
   pub journal : List Entry
   pub order : List ℕ
+  pub book : RecordBook
 
 -- the journal is lawful, the state is its replay, and best is the weight of the kept order
 pub record HasHistory (core : CoreFields) : Type 0 where
@@ -33,16 +36,29 @@ pub record HasHistory (core : CoreFields) : Type 0 where
   pub weighs : weight core.problem.weights core.order ≡ core.state.best
 
 -- each node's record certifies the node's bound under the node's path
-abbrev pub AreCertified : Matrix → List SearchNode → Type 0
-AreCertified C nodes = (i : ℕ) → i < length nodes → Certifies C (path_of nodes i) (node_at nodes i).bound
+abbrev pub AreCertified : Matrix → RecordBook → List SearchNode → Type 0
+AreCertified C book nodes =
+    (i : ℕ) → i < length nodes → CertifiesUnder C (path_of nodes i) (scaled_of book.cuts (record_at book.records i)) (node_at nodes i).bound
+
+-- each node has a record that certifies its bound; the cuts are of the objects; and no more terms and cuts came than the reports with room brought
+pub record AreRecorded (core : CoreFields) : Type 0 where
+  pub same_length : length core.book.records ≡ length core.state.nodes
+  pub certified : AreCertified core.problem.weights core.book core.state.nodes
+  pub fit : All (FitsCut core.problem.weights.size) core.book.cuts
+  pub terms : core.book.used ≤ 4096 * room_count core.journal
+  pub cuts : length core.book.cuts ≤ 4096 * room_count core.journal
 
 -- the core after an event is noted
 abbrev pub with_entry : CoreFields → Entry → List ℕ → CoreFields
 with_entry core entry order = record core { state = after core.state entry; journal = core.journal ++ entry ∷ []; order = order }
 
+-- the records at the start: that of the root, without terms
+abbrev pub root_book : RecordBook
+root_book = record { cuts = []; used = 0; records = empty_record ∷ [] }
+
 -- a core at its start: the root alone, and no entry
 abbrev pub prepared : Problem → List ℕ → CoreFields
-prepared problem order = record { problem = problem; state = root_state problem; journal = []; order = order }
+prepared problem order = record { problem = problem; state = root_state problem; journal = []; order = order; book = root_book }
 
 -- the ticket of a node
 abbrev pub ticket_of : CoreFields → ℕ → TicketFields
@@ -52,7 +68,7 @@ ticket_of core node = record {
   bound = (node_at core.state.nodes node).bound;
   best = core.state.best;
   path = path_of core.state.nodes node;
-  inherited = no_terms;
+  inherited = scaled_of core.book.cuts (record_at core.book.records node);
 }
 
 -- nothing was handed out
@@ -95,38 +111,45 @@ pub record IsSoundReport (core : CoreFields) (found : EvaluatedFields) : Type 0 
   pub is_of : IsTicketOf core found.node ticket
   pub sound : IsSoundResult core.problem.weights ticket found
 
+-- whether the result's record finds room
+abbrev pub has_room_for : CoreFields → EvaluatedFields → Bool
+has_room_for core found = finds_room (term_room core.problem.budget) core.book found.shown.terms
+
 -- the entry of a report
-abbrev pub entry_of : ℕ → EvaluatedFields → Entry
-entry_of worker found = Report worker found.node found.bound found.pair found.value true
+abbrev pub entry_of : CoreFields → ℕ → EvaluatedFields → Entry
+entry_of core worker found = Report worker found.node found.bound found.pair found.value (has_room_for core found)
 
 -- the order that is kept after a result: the result's where it weighs more, and else the one before
 pub record KeepsOrder (old : CoreFields) (found : EvaluatedFields) (order : List ℕ) : Type 0 where
   pub better : old.state.best <ℤ found.value → order ≡ found.order
   pub other : found.value ≤ℤ old.state.best → order ≡ old.order
 
--- a report was taken in: the node was out to the worker, and the event is noted
+-- a report was taken in: the node was out to the worker, the event is noted, and the record was taken in where it found room
 pub record IsReported (old : CoreFields) (worker : ℕ) (found : EvaluatedFields) (new : CoreFields) : Type 0 where
   pub was_out : IsOutTo old.state worker found.node
-  pub noted : new ≡ with_entry old (entry_of worker found) new.order
+  pub noted : new ≡ record (with_entry old (entry_of old worker found) new.order) { book = new.book }
   pub keeps : KeepsOrder old found new.order
+  pub book : RecordBook
+  pub taken : IsTakenOrKept (has_room_for old found) old.book found.node found.shown book
 
 -- one report of the machine
 abbrev pub IsReport : CoreFields → ℕ → EvaluatedFields → ReportReply → CoreFields → Type 0
 -- the node isn't out to the worker
 IsReport old worker found NotYours new = (¬ (IsOutTo old.state worker found.node)) × (new ≡ old)
 -- the node is closed
-IsReport old worker found Closed new = IsReported old worker found new × (length new.state.nodes ≡ length old.state.nodes)
--- the node is split, and these are the numbers of its children
-IsReport old worker found (Split first) new = IsReported old worker found new × (first ≡ length old.state.nodes) × (length new.state.nodes ≡ length old.state.nodes + 2)
+IsReport old worker found Closed new = (step : IsReported old worker found new) × (length new.state.nodes ≡ length old.state.nodes) × (new.book ≡ step.book)
+-- the node is split, these are the numbers of its children, and they have its record
+IsReport old worker found (Split first) new = (step : IsReported old worker found new) × (first ≡ length old.state.nodes) × (length new.state.nodes ≡ length old.state.nodes + 2) × (new.book ≡ with_children step.book found.node)
 
 -- what is known of a node
-abbrev pub view_of : SearchNode → NodeView
-view_of node = record { parent = node.parent; pair = node.pair; bound = node.bound; standing = node.standing; scale = 1; terms = 0 }
+abbrev pub view_of : SearchNode → NodeRecord → NodeView
+view_of node r = record { parent = node.parent; pair = node.pair; bound = node.bound; standing = node.standing; scale = r.scale; terms = length r.terms }
 
--- the rooms hold all nodes and entries that a budget allows, and a path
-pub record HasRoom (n budget node_room journal_room path_room : ℕ) : Type 0 where
+-- the rooms hold all nodes, their records and the entries that a budget allows, and a path
+pub record HasRoom (n budget node_room journal_room path_room record_room : ℕ) : Type 0 where
   pub positive : 1 ≤ budget
   pub within_limit : budget ≤ 1000000
   pub for_nodes : 2 * budget + 1 ≤ node_room
   pub for_entries : 2 * budget ≤ journal_room
   pub for_path : pair_count n ≤ path_room
+  pub for_records : 2 * budget + 1 ≤ record_room

@@ -1,10 +1,10 @@
 -- Journals: replay, whose entries, and which journals are lawful.
-use Rattle.std.specs.Prelude.{◌≡◌, ℕ, ℤ, ◌+◌, ◌*◌, ◌<◌, ◌≤◌, ◌≤ℤ◌, List, length, slice_get, take, fold, count_by, filter, Any, Bool, true, false, Option, Some, IfSome, IfNone, ◌==◌}
+use Rattle.std.specs.Prelude.{◌≡◌, ℕ, ℤ, ◌+◌, ◌*◌, ◌/◌, min, ◌<◌, ◌≤◌, ◌≤ℤ◌, List, length, slice_get, take, fold, count_by, filter, Any, Bool, true, false, Option, Some, IfSome, IfNone, ◌==◌}
 use Rattle.lop_model.specs.declared.pair.Pair.{Pair}
 use Rattle.lop_model.specs.Order.{IsOrder}
 use Rattle.lop_model.specs.Matrix.{Matrix, weight}
 use Rattle.lop_model.specs.Fixings.{IsClosure, IsUndecided, IsLinearExtension, AreAllDecided}
-use Rattle.lop_model.specs.Bound.{pair_bound}
+use Rattle.lop_leaf.specs.Packing.{packing_bound}
 use Rattle.lop_core.specs.declared.journal.Entry.{Entry}
 use Rattle.lop_core.specs.declared.journal.Entry.TheVariants.{Take, Report}
 use Rattle.lop_core.specs.Tree.{node_at, path_of, out_count, split_count}
@@ -14,9 +14,9 @@ use Rattle.lop_core.specs.Machine.{Problem, SearchState, root_state, after, IsOu
 abbrev pub IsPathBound : Matrix → List Pair → ℤ → Type 0
 IsPathBound C path b = (s : List ℕ) → IsOrder C.size s → IsLinearExtension s path → weight C s ≤ℤ b
 
--- b is at most the pair bound under the path
-abbrev pub IsWithinPairBound : Matrix → List Pair → ℤ → Type 0
-IsWithinPairBound C path b = (G : List Pair) → IsClosure path G → b ≤ℤ pair_bound C G
+-- b is at most the packing bound under the path
+abbrev pub IsWithinPackingBound : Matrix → List Pair → ℤ → Type 0
+IsWithinPackingBound C path b = (G : List Pair) → IsClosure path G → b ≤ℤ packing_bound C G
 
 -- some order has that weight
 pub record IsAttained (C : Matrix) (value : ℤ) : Type 0 where
@@ -57,27 +57,41 @@ abbrev pub is_report : Entry → Bool
 is_report (Take who node) = false
 is_report (Report who node bound pair value room) = true
 
+-- whether the entry is a report whose record found room
+abbrev pub has_room : Entry → Bool
+has_room (Take who node) = false
+has_room (Report who node bound pair value room) = room
+
+-- how many reports found room
+abbrev pub room_count : List Entry → ℕ
+room_count journal = count_by has_room journal
+
+-- how many reports find room at least: each has at most 4,096 terms and as many new cuts
+abbrev pub sure_rooms : ℕ → ℕ
+sure_rooms budget = min 16 (1 + budget / 4)
+
 -- a node may be handed out: it is live and idle, and the evaluated nodes and those that are out are below the budget
 pub record MayTake (problem : Problem) (s : SearchState) (node : ℕ) : Type 0 where
   pub ready : IsReady s.nodes s.best node
   pub within : s.evaluated + out_count s.nodes < problem.budget
 
--- a report may come in a state
-pub record MayReport (problem : Problem) (s : SearchState) (worker node : ℕ) (bound : ℤ) (pair : Option Pair) (value : ℤ) (room : Bool) : Type 0 where
+-- a report may come in a state that so many reports with room led to
+pub record MayReport (problem : Problem) (s : SearchState) (rooms worker node : ℕ) (bound : ℤ) (pair : Option Pair) (value : ℤ) (room : Bool) : Type 0 where
   pub is_out : IsOutTo s worker node
   pub no_more : bound ≤ℤ (node_at s.nodes node).bound
-  pub yardstick : IsWithinPairBound problem.weights (path_of s.nodes node) bound
+  pub packed : IsWithinPackingBound problem.weights (path_of s.nodes node) bound
   pub holds : IsPathBound problem.weights (path_of s.nodes node) bound
   pub attained : IsAttained problem.weights value
   pub undecided : IfSome pair (λ p. IsUndecided problem.weights.size (path_of s.nodes node) p.before p.after)
   pub all_decided : IfNone pair (AreAllDecided problem.weights.size (path_of s.nodes node) × (value ≡ bound))
-  -- there is room for every record, since none has terms
-  pub with_room : room ≡ true
+  pub decided_room : IfNone pair (room ≡ true)
+  -- a record is refused only where the rooms may be full
+  pub refused : room ≡ false → sure_rooms problem.budget ≤ rooms
 
 -- the entry may come after those entries
 abbrev pub MayFollow : Problem → List Entry → Entry → Type 0
 MayFollow problem journal (Take worker node) = MayTake problem (replay problem journal) node
-MayFollow problem journal (Report worker node bound pair value room) = MayReport problem (replay problem journal) worker node bound pair value room
+MayFollow problem journal (Report worker node bound pair value room) = MayReport problem (replay problem journal) (room_count journal) worker node bound pair value room
 
 -- the search starts with the weight of an order, and each entry may come after those before it
 pub record IsLawfulJournal (problem : Problem) (journal : List Entry) : Type 0 where

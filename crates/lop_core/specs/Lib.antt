@@ -1,5 +1,8 @@
 pub mod Tree
 pub mod Machine
+pub mod Records
+pub mod CutIndex
+pub mod Kept
 pub mod Journal
 pub mod Core
 pub mod Outcome

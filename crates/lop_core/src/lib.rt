@@ -1,9 +1,11 @@
 //! The search machine: nodes, what is handed out, what is reported, and the journal of it all.
 #![tactic(auto)]
 
+mod cut_index;
 mod journal;
 mod node;
 mod path;
+mod records;
 mod reply;
 mod room;
 mod scan;
@@ -15,5 +17,6 @@ mod tests;
 
 pub use journal::Entry;
 pub use node::{NodeView, SearchNode, Standing};
+pub use records::{NumberedTerm, Records, Span};
 pub use reply::{ReportReply, TakeReply};
 pub use search::Core;

@@ -1,25 +1,33 @@
 // The core: nodes and journal in rooms that are made once.
-ghost use Rattle.std.specs.Prelude.{◌≡◌, ℕ, List, [], IfOk, ◌≤ℤ◌, ◌+◌, ◌*◌, ◌<◌, ◌≤◌, length, ◌↔◌};
+ghost use Rattle.std.specs.Prelude.{◌≡◌, ℕ, List, [], IfOk, slice_index_or, ◌≤ℤ◌, ◌+◌, ◌*◌, ◌<◌, ◌≤◌, length, ◌↔◌};
 ghost use Rattle.lop_model.specs.Order.{IsOrder};
 ghost use Rattle.lop_model.specs.Matrix.{weight};
 ghost use Rattle.lop_model.specs.Bound.{pair_bound};
-ghost use Rattle.lop_leaf.specs.Sound.{Certifies};
+ghost use Rattle.lop_cuts.specs.Kind.{IsCut, FitsCut};
+ghost use Rattle.lop_leaf.specs.Bound.{CertifiesUnder};
+ghost use Rattle.lop_leaf.specs.Packing.{packing_bound};
+ghost use Rattle.lop_leaf.specs.Record.{IsMultiplier};
+ghost use Rattle.lop_core.specs.declared.records.NumberedTerm.{NumberedTerm};
 ghost use Rattle.lop_core.specs.Tree.{IsCoveredOnce, node_at, path_of};
-ghost use Rattle.lop_core.specs.Machine.{IsOutTo, live_count, ready_count, state_bound};
+ghost use Rattle.lop_core.specs.Machine.{IsLive, IsOutTo, live_count, ready_count, state_bound};
 ghost use Rattle.lop_core.specs.Journal.{HasTake, HasReport, entries_of, AreCounted};
 ghost use Rattle.lop_core.specs.AllOrders.{AreAllOrders};
-ghost use Rattle.lop_core.specs.Core.{CoreFields, HasHistory, IsTake, OnNode, IsReport, IsSoundReport, prepared, view_of};
+ghost use Rattle.lop_core.specs.Core.{CoreFields, HasHistory, IsTake, OnNode, IsReport, IsSoundReport, AreRecorded, prepared, view_of};
+ghost use Rattle.lop_core.specs.Records.{IsNodeRecord, IsRecordBook, cut_at, record_at, scaled_of};
 
 use crate::journal::Entry;
 use crate::node::{NodeView, SearchNode, Standing};
 use crate::path::fill_ticket;
+use crate::records::Records;
 use crate::reply::{ReportReply, TakeReply};
 use crate::room::put_last;
 use crate::scan::{best_ready, count_live, count_ready, first_live, greatest_bound};
-use crate::settle::{child, is_out_to, keep_better, settle};
-use crate::start::{order_weight, root_bound};
+use crate::settle::{child, either, is_out_to, keep_better, settle};
+use crate::start::root_bound;
+use lop_cuts::Cut;
 use lop_leaf::{Evaluated, LeafRecord, Ticket};
 use lop_model::{Order, Pair, Weights};
+use lop_value::value;
 use std::alloc::{AllocError, Global};
 use std::marker::Model;
 
@@ -37,14 +45,16 @@ pub struct Core {
     journal: Vec<Entry>,
     order: Order,
     path: Vec<Pair>,
-    empty: LeafRecord,
+    records: Records,
+    inherited: LeafRecord,
 }
 
 impl Model for Core {
     ghost use Rattle.std.specs.Prelude.{◌≡◌, vec_capacity};
-    ghost use Rattle.lop_leaf.specs.Record.{no_terms};
     ghost use Rattle.lop_core.specs.AllOrders.{AreAllOrders};
-    ghost use Rattle.lop_core.specs.Core.{CoreFields, HasHistory, AreCertified, HasRoom};
+    ghost use Rattle.lop_core.specs.Kept.{AreKept, book_of};
+    ghost use Rattle.lop_core.specs.Records.{term_room};
+    ghost use Rattle.lop_core.specs.Core.{CoreFields, HasHistory, AreRecorded, HasRoom};
     ghost use Rattle.lop_core.specs.Tree.{out_count};
 
     ghost Value = { CoreFields };
@@ -54,6 +64,7 @@ impl Model for Core {
       state = record { nodes = c.nodes.items; best = c.best; evaluated = c.evaluated };
       journal = c.journal.items;
       order = c.order;
+      book = book_of c.records;
     } };
 
     ghost invariant = { λ c. HasHistory (record {
@@ -61,12 +72,19 @@ impl Model for Core {
       state = record { nodes = c.nodes.items; best = c.best; evaluated = c.evaluated };
       journal = c.journal.items;
       order = c.order;
-    }) × AreCertified c.weights c.nodes.items × HasRoom c.weights.size c.budget (vec_capacity c.nodes) (vec_capacity c.journal) (vec_capacity c.path) × (c.out ≡ out_count c.nodes.items) × (c.empty ≡ no_terms) };
+      book = book_of c.records;
+    }) × AreRecorded (record {
+      problem = record { weights = c.weights; start = c.start; budget = c.budget };
+      state = record { nodes = c.nodes.items; best = c.best; evaluated = c.evaluated };
+      journal = c.journal.items;
+      order = c.order;
+      book = book_of c.records;
+    }) × HasRoom c.weights.size c.budget (vec_capacity c.nodes) (vec_capacity c.journal) (vec_capacity c.path) (vec_capacity c.records.spans) × (c.out ≡ out_count c.nodes.items) × AreKept c.records × (c.records.term_room ≡ term_room c.budget) };
 }
 
 impl Core {
     /// Copies the weights and the order, and takes all the memory that the search will need: room for 2 * budget + 1
-    /// nodes, 2 * budget entries and a path. The root is idle, with the pair bound. O(n² + budget).
+    /// nodes, 2 * budget entries, a path, 4,096 + min(1,024 * budget, 67,108,864) terms and 65,536 cuts. The root is idle, with the pair bound. O(n² + budget).
     pub fn prepare(
         alloc: Global,
         weights: &Weights,
@@ -79,7 +97,7 @@ impl Core {
         ensures { IfOk result (λ core. core ≡ prepared (record { weights = weights.now; start = weight weights.now order.now; budget = budget }) order.now) }
     {
         let n = order.n();
-        let best = order_weight(weights, order);
+        let best = value(weights, order);
         let bound = root_bound(alloc, weights)?;
         let places = 2 * budget as usize;
         let mut nodes = Vec::with_capacity(alloc, places + 1)?;
@@ -98,7 +116,8 @@ impl Core {
             journal: Vec::with_capacity(alloc, places)?,
             order: kept,
             path: Vec::with_capacity(alloc, pairs)?,
-            empty: LeafRecord::new(alloc)?,
+            records: Records::prepare(alloc, budget)?,
+            inherited: LeafRecord::new(alloc)?,
         })
     }
 
@@ -119,12 +138,13 @@ impl Core {
             return TakeReply::Spent;
         }
         let node = index as u32;
+        self.records.read(index, &mut self.inherited);
         fill_ticket(
             &self.nodes,
             node,
             self.best,
             &mut self.path,
-            &self.empty,
+            &self.inherited,
             into,
         );
         self.nodes[index].standing = Standing::Out(worker);
@@ -146,24 +166,27 @@ impl Core {
         if !is_out_to(self.nodes[index], worker) {
             return ReportReply::NotYours;
         }
-        let bound = found.bound();
         let pair = found.pair();
         let value = found.value();
         keep_better(&mut self.best, &mut self.order, value, found.order());
         self.evaluated += 1;
         self.out -= 1;
+        let room = self.records.offer(index, found.shown());
         put_last(
             &mut self.journal,
             Entry::Report {
                 worker,
                 node,
-                bound,
+                bound: found.bound(),
                 pair,
                 value,
-                room: true,
+                room,
             },
         );
-        match settle(&mut self.nodes, node, bound, pair, self.best) {
+        let bound = either(room, found.bound(), self.nodes[index].bound);
+        let split = settle(&mut self.nodes, node, bound, pair, self.best);
+        self.records.inherit(index, split);
+        match split {
             Some(first) => ReportReply::Split(first),
             None => ReportReply::Closed,
         }
@@ -194,11 +217,13 @@ impl Core {
         &self.order
     }
 
-    /// The greatest of best and of the bounds of the nodes that aren't split: at most the pair bound of the weights.
-    /// O(the number of nodes).
+    /// The greatest of best and of the bounds of the nodes that aren't split: at most the pair bound of the weights,
+    /// and at most their packing bound once a node was evaluated or where none is live. O(the number of nodes).
     pub fn bound(&self) -> i128
         ensures value { result ≡ state_bound self.now.state }
         ensures from_root { result ≤ℤ pair_bound self.now.problem.weights [] }
+        ensures packed { 1 ≤ self.now.state.evaluated → result ≤ℤ packing_bound self.now.problem.weights [] }
+        ensures packed_closed { ((node : ℕ) → ¬ (IsLive self.now.state.nodes self.now.state.best node)) → result ≤ℤ packing_bound self.now.problem.weights [] }
         ensures bounds { (order : List ℕ) → IsOrder self.now.problem.weights.size order → weight self.now.problem.weights order ≤ℤ result }
         ensures at_least_best { self.now.state.best ≤ℤ result }
     {
@@ -246,21 +271,56 @@ impl Core {
         self.nodes.len() as u32
     }
 
-    /// What is known of a node.
+    /// What is known of a node. Its record certifies its bound.
     pub fn node(&self, index: u32) -> NodeView
         requires { index < length self.now.state.nodes }
-        ensures value { result ≡ view_of (node_at self.now.state.nodes index) }
-        ensures certified { Certifies self.now.problem.weights (path_of self.now.state.nodes index) result.bound }
+        ensures value { result ≡ view_of (node_at self.now.state.nodes index) (record_at self.now.book.records index) }
+        ensures certified { CertifiesUnder self.now.problem.weights (path_of self.now.state.nodes index) (scaled_of self.now.book.cuts (record_at self.now.book.records index)) result.bound }
+        ensures terms { IsNodeRecord (length self.now.book.cuts) (record_at self.now.book.records index) }
     {
         let node = self.nodes[index as usize];
+        let span = self.records.spans[index as usize];
         NodeView {
             parent: node.parent,
             pair: node.pair,
             bound: node.bound,
             standing: node.standing,
-            scale: 1,
-            terms: 0,
+            scale: span.scale,
+            terms: span.count,
         }
+    }
+
+    /// The number of the cut and the multiplier of a term of a node's record. The numbers rise.
+    pub fn term(&self, node: u32, index: u32) -> (u32, u64)
+        requires node { node < length self.now.state.nodes }
+        requires index { index < length (record_at self.now.book.records node).terms }
+        ensures value { (d : NumberedTerm) → slice_index_or (record_at self.now.book.records node).terms index d ≡ record { cut = result.0; multiplier = result.1 } }
+        ensures cut { result.0 < length self.now.book.cuts }
+        ensures multiplier { IsMultiplier result.1 }
+    {
+        let span = self.records.spans[node as usize];
+        let term = self.records.terms[(span.first + index) as usize];
+        (term.cut, term.multiplier)
+    }
+
+    /// The number of distinct cuts of all records.
+    pub fn cuts(&self) -> u32
+        ensures value { result ≡ length self.now.book.cuts }
+        ensures within_limit { result ≤ 65536 }
+        ensures recorded { AreRecorded self.now }
+        ensures book { IsRecordBook self.now.book }
+    {
+        self.records.cuts.len() as u32
+    }
+
+    /// The cut of a number. Cuts are numbered in the order of their first use.
+    pub fn cut(&self, index: u32) -> &Cut
+        requires { index < length self.now.book.cuts }
+        ensures value { result.now ≡ cut_at self.now.book.cuts index }
+        ensures cut { IsCut result.now }
+        ensures fits { FitsCut self.now.problem.weights.size result.now }
+    {
+        self.records.cuts.get(index)
     }
 
     /// The events so far. The state is their replay, whatever calls were made; every order extends the path of

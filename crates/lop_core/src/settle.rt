@@ -30,6 +30,13 @@ pub fn keep_better(best: &mut i128, order: &mut Order, value: i128, other: &Orde
     }
 }
 
+/// The reported bound where its record found room, and else the inherited one.
+pub fn either(room: bool, reported: i128, inherited: i128) -> i128
+    ensures { result ≡ (if room then reported else inherited) }
+{
+    if room { reported } else { inherited }
+}
+
 /// The pair the other way round.
 fn reverse(pair: Pair) -> Pair
     ensures { result ≡ reversed pair }

@@ -1,10 +1,8 @@
 -- Two closures of the same pairs are the same list: they have the same pairs, and both rise.
-use Rattle.std.proofs.Common.{◌≡◌, ◌≢◌, ◌⊎◌, ℕ, zero, suc, ◌<◌, Bool, true, false, eqb, ◌&&◌, ◌||◌, List, [], ◌∷◌, length, get_or, refl, sym, ◌∙◌, ap, subst, inl, inr, arith}
+use Rattle.std.proofs.Common.{◌≡◌, ◌⊎◌, ℕ, suc, ◌<◌, Bool, true, false, ◌||◌, List, [], ◌∷◌, length, get_or, refl, sym, ◌∙◌, ap, subst, inl, inr, arith}
 use Rattle.std.specs.List.{AllPairs}
 use Rattle.std.proofs.lemmas.Bool.{false≢true}
-use Rattle.std.proofs.lemmas.Bool.Decides.{nat_tests}
 use Rattle.lop_model.specs.declared.pair.Pair.{Pair}
-use Rattle.lop_model.specs.Matrix.{Matrix}
 use Rattle.lop_model.specs.Fixings.{has_pair, ComesBefore, IsClosure}
 use Rattle.lop_cuts.specs.Arcs.{arc, same_arc}
 use Rattle.lop_cuts.proofs.ArcLemmas.{same_arc-true, same_arc-refl}
@@ -78,8 +76,8 @@ same_rising (x ∷ xs) (y ∷ ys) rg rh same =
     let e : x ≡ y = same_first x y xs ys rg rh same in
     let rises : AllPairs ComesBefore (x ∷ ys) = subst (λ z. AllPairs ComesBefore (z ∷ ys)) (sym e) rh in
     let rest : xs ≡ ys = same_rising xs ys (tail_rises x xs rg) (tail_rises y ys rh) (λ a b.
-        same_rest (same_arc x (arc a b)) (has_pair xs a b) (has_pair ys a b) (not_again x xs a b rg) (not_again x ys a b rises)
-        (same a b ∙ ap (λ z. same_arc z (arc a b) || has_pair ys a b) (sym e))) in
+    same_rest (same_arc x (arc a b)) (has_pair xs a b) (has_pair ys a b) (not_again x xs a b rg) (not_again x ys a b rises)
+    (same a b ∙ ap (λ z. same_arc z (arc a b) || has_pair ys a b) (sym e))) in
     ap (λ z. z ∷ xs) e ∙ ap (λ zs. y ∷ zs) rest
 
 -- the closure is one list

@@ -1,5 +1,5 @@
 -- What makes a result sound: a bound under the closure of the path, and the least undecided pair or an order that extends the path.
-use Rattle.std.proofs.Common.{◌≡◌, ◌≢◌, ℕ, ◌<◌, List, [], length, refl, sym, ◌∙◌, ap, subst, inl, inr, Some, None, Option, ℤ, pos, ◌+ℤ◌, ◌*ℤ◌, ◌≤ℤ◌, ◌<ℤ◌, rules, arith}
+use Rattle.std.proofs.Common.{◌≡◌, ◌≢◌, ℕ, ◌<◌, List, [], length, refl, sym, ◌∙◌, ap, subst, inl, inr, Some, None, ℤ, pos, ◌+ℤ◌, ◌*ℤ◌, ◌≤ℤ◌, ◌<ℤ◌, rules, arith}
 use Rattle.std.specs.Prelude.{◌↔◌, take, slice_index_or, Result, Ok, Err, IfErr, IsOk}
 use Rattle.std.specs.List.{All}
 use Rattle.std.proofs.Math.IntN.{suc_ℤ-*ℤ, zero-*ℤ}
@@ -7,7 +7,7 @@ use Rattle.std.proofs.lemmas.Int.{ints}
 use Rattle.lop_model.specs.declared.pair.Pair.{Pair}
 use Rattle.lop_model.specs.Order.{IsOrder}
 use Rattle.lop_model.specs.Matrix.{Matrix, weight}
-use Rattle.lop_model.specs.Fixings.{IsClosure, IsUndecided, IsDecided, IsBranchingPath, IsLinearExtension, AreAllDecided}
+use Rattle.lop_model.specs.Fixings.{IsClosure, IsDecided, IsBranchingPath, IsLinearExtension, AreAllDecided}
 use Rattle.lop_model.proofs.FixingsLemmas.{IsLinearExtension-from_closure}
 use Rattle.lop_model.proofs.ClosureLemmas.{IsClosure-itself, IsUndecided-closure}
 use Rattle.lop_fix.specs.declared.fixings.PathFault.{PathFault}
@@ -19,7 +19,7 @@ use Rattle.lop_leaf.specs.Bound.{record_value, IsQuotient}
 use Rattle.lop_leaf.specs.Packing.{packing_bound}
 use Rattle.lop_leaf.specs.Ticket.{TicketFields}
 use Rattle.lop_leaf.specs.Evaluated.{EvaluatedFields}
-use Rattle.lop_leaf.specs.Sound.{IsSoundTicket, IsDecidedResult, IsSoundResult}
+use Rattle.lop_leaf.specs.Sound.{IsSoundTicket, IsSoundResult}
 use Rattle.lop_leaf.proofs.QuotientLemmas.{scaled_down}
 use Rattle.lop_leaf.proofs.FallLemmas.{weight-decided}
 use Rattle.lop_leaf.proofs.PathLemmas.{IsPartialOrder-closure, weight-le-certified_under}

@@ -61,7 +61,12 @@ fn fix_path(fixings: &mut Fixings, path: &[Pair])
 }
 
 /// The bound that the inherited record shows under the fixings of the ticket's path.
-fn inherited_bound(weights: &Weights, fixings: &Fixings, ticket: &Ticket, room: &mut PairRoom) -> i128
+fn inherited_bound(
+    weights: &Weights,
+    fixings: &Fixings,
+    ticket: &Ticket,
+    room: &mut PairRoom,
+) -> i128
     requires same_n { fixings.now.size ≡ weights.now.size }
     requires room { room.old ≡ weights.now.size }
     requires ticket { IsSoundTicket weights.now ticket.now }
@@ -102,7 +107,14 @@ impl Judge for PackJudge {
                 if packed <= inherited {
                     into.put(node, packed, Some(pair), &self.packed, &self.order, value);
                 } else {
-                    into.put(node, inherited, Some(pair), ticket.inherited(), &self.order, value);
+                    into.put(
+                        node,
+                        inherited,
+                        Some(pair),
+                        ticket.inherited(),
+                        &self.order,
+                        value,
+                    );
                 }
             }
         }

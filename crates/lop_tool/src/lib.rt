@@ -6,6 +6,7 @@ mod bound;
 mod certificate;
 mod checking;
 mod deliver;
+mod generation;
 mod input;
 mod refused;
 mod reply;

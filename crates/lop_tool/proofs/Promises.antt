@@ -180,7 +180,7 @@ generates (Some (Gen seed n)) (Some w) new before now status (replied (Solved x)
 generates (Some (Gen seed n)) (Some w) new before now status (replied (Checked x) answers is left) = λ _. absurd answers
 generates (Some (Gen seed n)) (Some w) new before now status (replied (Valued x) answers is left) = λ _. absurd answers
 generates (Some (Gen seed n)) (Some w) new before now status (replied (Refused r) answers is left) = λ _. absurd answers
-generates (Some (Gen seed n)) (Some w) new before now status (cut_off reply n is fault answers left) = λ ends. absurd (not_solved status (omega arith) (omega arith) ends)
+generates (Some (Gen seed n)) (Some w) new before now status (cut_off reply k is fault answers left) = λ ends. absurd (not_solved status (omega arith) (omega arith) ends)
 generates (Some (Gen seed n)) (Some w) new before now status (faulted is fault leaves) = λ ends. absurd (not_solved status (omega arith) (omega arith) ends)
 generates (Some (Gen seed n)) (Some w) new before now status (lacked is leaves) = λ ends. absurd (not_solved status (omega arith) (omega arith) ends)
 
@@ -279,6 +279,39 @@ rejects command (Some w) new before now status ended = record {
     always (Some (Value file order_file)) (inl r) rejection = absurd rejection.2
     always (Some (Gen seed n)) (inl r) rejection = absurd rejection.2
     always (Some (Check file cert)) (inl r) rejection = inl (r.2 ∙ rejected_reply file cert w r.0 rejection.0 rejection.1 r.1 rejection.2)
+
+-- a command has no reply with status 2
+command_not_two : (command : Command) (old : Option World) (reply : Reply) (status : ℕ) → Answers (Some command) old reply → status ≡ reply_status reply → status ≡ 2 → ⊥
+command_not_two command old (Solved x) status answers is two = solved_not (is_optimal x.answer.value x.answer.bound) status 2 is (omega arith) (omega arith) two
+command_not_two command old (Generated x) status answers is two = solved_not (is_optimal x.answer.value x.answer.bound) status 2 is (omega arith) (omega arith) two
+command_not_two command old (Checked x) status answers is two = outcome_not x.outcome status 2 is (omega arith) (omega arith) two
+command_not_two command old (Valued x) status answers is two = omega arith
+command_not_two command old (Refused LongCertificate) status answers is two = omega arith
+command_not_two command old (Refused (Input r)) status answers is two = omega arith
+command_not_two command old (Refused (Order r)) status answers is two = omega arith
+command_not_two (Solve file nodes cert) old (Refused Words) status answers is two = answers
+command_not_two (Check file cert) old (Refused Words) status answers is two = answers
+command_not_two (Value file order_file) old (Refused Words) status answers is two = answers
+command_not_two (Gen seed n) old (Refused Words) status answers is two = answers
+
+two_only : (command : Option Command) (old new : Option World) (before now status : ℕ) → Ended command old new before now status → status ≡ 2 → command ≡ None
+two_only None old new before now status ended two = refl
+two_only (Some command) old new before now status (replied reply answers is left) two = absurd (command_not_two command old reply status answers is two)
+two_only (Some command) old new before now status (cut_off reply n is fault answers left) two = absurd (omega arith)
+two_only (Some command) old new before now status (faulted is fault leaves) two = absurd (omega arith)
+two_only (Some command) old new before now status (lacked is leaves) two = absurd (omega arith)
+
+pub usage : (command : Option Command) (old new : Option World) (before now status : ℕ) → Ended command old new before now status → ExactlyWhere status 2 (command ≡ None) (Faulted command old before now)
+usage command old new before now status ended = record {
+  only = two_only command old new before now status ended;
+  always = always command (reply_or command old new before now status ended);
+}
+  where
+    always : (c : Option Command) → ((reply : Reply) × Answers c old reply × (status ≡ reply_status reply)) ⊎ (status ≡ 5) ⊎ ((status ≡ 4) × Faulted c old before now) → c ≡ None
+        → (status ≡ 2) ⊎ (status ≡ 5) ⊎ ((status ≡ 4) × Faulted c old before now)
+    always c (inr other) none = inr other
+    always None (inl r) none = inl (r.2 ∙ ap reply_status r.1)
+    always (Some command) (inl r) none = absurd cc
 
 pub refusal_line_of : (command : Option Command) (old new : Option World) (before now status : ℕ) → Ended command old new before now status → IfSome old (λ w. status ≡ 3 → PrintsRefusal command w old new)
 refusal_line_of command None new before now status ended = tt

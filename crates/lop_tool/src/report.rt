@@ -103,10 +103,21 @@ pub fn print_generated<D: Desk>(
     ensures effect { PrintsAll (D.told desk.old) (D.told desk.new) (gen_text seed weights.now answer.now.value answer.now.bound answer.now.nodes) result }
     ensures cause { HasCause (D.faults desk.old) (D.faults desk.new) result }
 {
-    print_number(b"seed ", i128::from(seed), desk, room)?;
+    print_seed(seed, desk, room)?;
     print_bound_lines(weights.n(), answer, desk, room)?;
     print_count(b"nodes ", answer.nodes, desk, room)?;
     print_number(b"total ", weights.total(), desk, room)
+}
+
+fn print_seed<D: Desk>(seed: u64, desk: &mut D, room: &mut TextRoom) -> Result<(), DeskFailed>
+    ensures effect { PrintsAll (D.told desk.old) (D.told desk.new) (number_line (codes "seed ") (pos seed)) result }
+    ensures cause { HasCause (D.faults desk.old) (D.faults desk.new) result }
+{
+    room.clear();
+    room.put(b"seed ");
+    room.put(Buffer::new().format(seed).as_bytes());
+    room.put(b"\n");
+    print_all(desk, room.bytes())
 }
 
 fn print_bound_lines<D: Desk>(

@@ -1,4 +1,4 @@
-use Rattle.lop_tool.proofs.Promises.{solves, checks, values, generates, rejects, rejection_line, usage_line, refuses_of, refusal_line_of, completes}
+use Rattle.lop_tool.proofs.Promises.{solves, checks, values, generates, usage, rejects, rejection_line, usage_line, refuses_of, refusal_line_of, completes}
 use Rattle.lop_tool.proofs.top.run.Goals as goal
 
 pub returns-clause-solves : goal.returns-clause-solves
@@ -30,3 +30,6 @@ returns-clause-values g c = values _ _ _ _ _ _ c.carry_out.ensures.ended
 
 pub returns-clause-generates : goal.returns-clause-generates
 returns-clause-generates g c = generates _ _ _ _ _ _ c.carry_out.ensures.ended
+
+pub returns-clause-usage : goal.returns-clause-usage
+returns-clause-usage g c = usage _ _ _ _ _ _ c.carry_out.ensures.ended

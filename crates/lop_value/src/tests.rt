@@ -10,13 +10,16 @@ fn order_of(alloc: Global, objects: [u16; 3]) -> Result<Option<Order>, Fail> {
 // What the order of three objects weighs with the entries 5 1, 2 4 and 3 1 off the diagonal.
 fn weighs(alloc: Global, objects: [u16; 3]) -> Result<Option<i128>, Fail> {
     let entries: [i64; 9] = [0, 5, 1, 2, 0, 4, 3, 1, 0];
-    let weights = Weights::new(3, entries.to_vec(alloc)?).ok();
-    match (weights, order_of(alloc, objects)?) {
-        (Some(weights), Some(order)) if order.n() == weights.n() => {
-            Ok(Some(value(&weights, &order)))
-        }
-        _ => Ok(None),
+    let Ok(weights) = Weights::new(3, entries.to_vec(alloc)?) else {
+        return Ok(None);
+    };
+    let Some(order) = order_of(alloc, objects)? else {
+        return Ok(None);
+    };
+    if order.n() != weights.n() {
+        return Ok(None);
     }
+    Ok(Some(value(&weights, &order)))
 }
 
 #[test]

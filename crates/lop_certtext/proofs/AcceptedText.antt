@@ -1,22 +1,37 @@
 -- The text of a certificate that is true is accepted.
-use Rattle.std.proofs.Common.{◌≡◌, ◌≢◌, ℕ, ◌+◌, ◌-◌, ◌*◌, ◌^◌, ◌<◌, ◌≤◌, suc, Bool, true, false, ◌&&◌, ◌==◌, cond, List, [], ◌∷◌, ◌++◌, length, map, codes, nat_lt, nat_le, get_or, ℤ, pos, nat_abs, ◌+ℤ◌, Option, refl, sym, ◌∙◌, ap, arith}
-use Rattle.std.specs.Prelude.{int_lt, int_le, ◌<ℤ◌}
+use Rattle.std.proofs.Common.{◌≡◌, ◌≢◌, ℕ, ◌+◌, ◌*◌, ◌^◌, ◌<◌, ◌≤◌, suc, Bool, true, false, ◌&&◌, ◌==◌, cond, List, [], ◌∷◌, ◌++◌, length, map, codes, nat_lt, nat_le, get_or, ℤ, pos, nat_abs, Option, refl, sym, ◌∙◌, ap, arith}
+use Rattle.std.specs.Prelude.{int_lt, int_le, ◌<ℤ◌, All}
 use Rattle.std.specs.List.{flat_map, list_all, list_any, slice_split}
 use Rattle.std.proofs.lemmas.Bool.{and_from, or_from, lt-ltb, le-ltb, le-leb, eq-eqb, ne_eqb}
 use Rattle.std.proofs.lemmas.Int.{ints}
-use Rattle.std.proofs.lemmas.List.{append_assoc, length-map}
+use Rattle.std.proofs.lemmas.List.{append_assoc, length-map, length-append, map-append, append-nil}
+use Rattle.std.proofs.lemmas.List.Elements.{All-cons, All-head, All-tail}
+use Rattle.std.proofs.lemmas.List.Folds.{list_all-append}
 use Rattle.std.proofs.lemmas.List.Splits.{slice_split_at}
+use Rattle.lop_model.specs.declared.pair.Pair.{Pair}
 use Rattle.lop_model.specs.Order.{IsOrder}
-use Rattle.lop_model.specs.Matrix.{Matrix, IsWeights, IsUpperBound, weight}
-use Rattle.lop_model.proofs.BoundLemmas.{IsUpperBound-pair_bound}
-use Rattle.lop_model.specs.Bound.{pair_bound}
+use Rattle.lop_model.specs.Matrix.{Matrix, IsWeights, weight}
+use Rattle.lop_cuts.specs.declared.kind.Cycle.{Cycle}
+use Rattle.lop_cuts.specs.declared.kind.Cycle.TheVariants.{Three, Four}
+use Rattle.lop_cuts.specs.declared.kind.CutKind.{CutKind}
+use Rattle.lop_cuts.specs.declared.kind.CutKind.TheVariants as kind
+use Rattle.lop_cuts.specs.Kind.{IsCut, FitsCut}
+use Rattle.lop_cuts.specs.Kind.{objects_of as cycle_objects}
 use Rattle.lop_certtext.specs.declared.word.CertWord.{CertWord}
-use Rattle.lop_certtext.specs.declared.word.CertWord.TheVariants.{Version, Objects, OrderLine, Value, Bound, Cuts, Leaf, End}
+use Rattle.lop_certtext.specs.declared.word.CertWord.TheVariants.{Version, Objects, OrderLine, Value, Bound, Cuts, End}
 use Rattle.lop_certtext.specs.declared.reason.Reason.TheVariants as reason
-use Rattle.lop_certtext.specs.Line.{CertLine, is_count, is_row, line_text}
-use Rattle.lop_certtext.specs.Certificate.{Certificate, certificate_lines, certificate_text, IsTreeCertificate}
-use Rattle.lop_certtext.specs.Answer.{TextLine, ended_line, long_line, long_file, limited, lines_from, text_lines, CheckAnswer, accepted, rejected, with_line, expect, is_version, is_objects, is_order_line, is_value, is_bound, is_cuts, is_leaf, is_end, only_number, are_objects, is_order, objects_of, objects_step, order_step, value_step, bound_step, cuts_step, leaf_step, end_step, tail_step, check_answer}
+use Rattle.lop_certtext.specs.Line.{CertLine, most_cuts, is_count, are_counts, is_row, line_text}
+use Rattle.lop_certtext.specs.Chains.{reversed}
+use Rattle.lop_certtext.specs.CutLine.{numbers_of_objects, cycle_numbers, cut_line, IsShapedCycle, IsShapedCut, objects_of, cut_of}
+use Rattle.lop_certtext.specs.LeafLine.{LeafTerms, leaf_line}
+use Rattle.lop_certtext.specs.Tree.{Tree, leaf, split, split_line, tree_lines, IsLeaf, IsTree}
+use Rattle.lop_certtext.specs.Certificate.{Certificate, certificate_lines, certificate_text, text_of, IsTreeCertificate}
+use Rattle.lop_certtext.specs.Answer.{TextLine, ended_line, long_line, long_file, limited, lines_from, text_lines, CheckAnswer, accepted, rejected, with_line, spelled, expect, is_version, is_objects, is_order_line, is_value, is_bound, is_cuts, is_end, only_number, are_objects, is_order, objects_step, order_step, value_step, bound_step, cuts_step, cuts_left_step, is_cut_word, with_cut, cut_step, tree_step, node_step, split_step, leaf_step, leaf_value, leaf_limit, tail_step, check_answer}
 use Rattle.lop_certtext.proofs.Lines.{All-from_free, lf_free-line_text, length-line_text, line_reading-line_text}
+use Rattle.lop_certtext.proofs.ObjectNumbers.{objects_of-numbers}
+use Rattle.lop_certtext.proofs.CutText.{cut_of-line}
+use Rattle.lop_certtext.proofs.NodeText.{leaf_of-line, split_of-line, counts-terms, length-leaf_line}
+use Rattle.lop_certtext.proofs.TreeBounds.{numbered-rising}
 
 -- ---- the lines of a text
 
@@ -31,9 +46,6 @@ AreWritten (l ∷ ls) = IsWritten l × AreWritten ls
 
 pub written : (l : CertLine) → is_row l.word l.numbers ≡ true → length l.numbers ≤ 1000 → IsWritten l
 written l row few = record { row = row; short = omega (arith, length-line_text l row) }
-
-abbrev pub text_of : List CertLine → List ℕ
-text_of ls = flat_map (λ l. line_text l ++ codes "\n") ls
 
 -- the pieces between LFs
 pieces-text : (ls : List CertLine) → AreWritten ls → slice_split (λ b. b == 10) (text_of ls) ≡ map line_text ls ++ [] ∷ []
@@ -56,65 +68,64 @@ abbrev pub ended : CertLine → TextLine
 ended l = ended_line (line_text l)
 
 -- a line in front of others
-lines_from-line : (start : ℕ) (l : CertLine) (next : List ℕ) (ps : List (List ℕ)) (lines : List TextLine) → IsWritten l → start + 131072 ≤ 2 ^ 40 → lines_from (start + length (line_text l) + 1) (next ∷ ps) ≡ lines → lines_from start (line_text l ∷ next ∷ ps) ≡ ended l ∷ lines
+lines_from-line : (start : ℕ) (l : CertLine) (next : List ℕ) (ps : List (List ℕ)) (lines : List TextLine) → IsWritten l → start + length (line_text l) + 1 ≤ 2 ^ 40 → lines_from (start + length (line_text l) + 1) (next ∷ ps) ≡ lines → lines_from start (line_text l ∷ next ∷ ps) ≡ ended l ∷ lines
 lines_from-line start l next ps lines w within others =
     lines_from-more start (line_text l) next ps
-    ∙ ap (λ (t : TextLine). t ∷ lines_from (start + length (line_text l) + 1) (next ∷ ps)) (limited-ended start (line_text l) w.short (omega (arith, w.short)))
+    ∙ ap (λ (t : TextLine). t ∷ lines_from (start + length (line_text l) + 1) (next ∷ ps)) (limited-ended start (line_text l) w.short within)
     ∙ ap (λ (ts : List TextLine). ended l ∷ ts) others
 
-lines_from-text : (ls : List CertLine) (start : ℕ) → AreWritten ls → start + 131072 * length ls ≤ 2 ^ 40 → lines_from start (map line_text ls ++ [] ∷ []) ≡ map ended ls
-lines_from-text [] start w within = refl
-lines_from-text (l ∷ []) start w within = lines_from-line start l [] [] [] w.0 (omega arith) refl
-lines_from-text (l ∷ m ∷ ls) start w within =
-    lines_from-line start l (line_text m) (map line_text ls ++ [] ∷ []) (map ended (m ∷ ls)) w.0 (omega arith)
-    (lines_from-text (m ∷ ls) (start + length (line_text l) + 1) w.1 (omega (arith, w.0.short)))
+-- the bytes of a text, line by line
+pub length-text_of : (l : CertLine) (ls : List CertLine) → length (text_of (l ∷ ls)) ≡ length (line_text l) + 1 + length (text_of ls)
+length-text_of l ls = omega (arith, length-append (line_text l ++ codes "\n") (text_of ls), length-append (line_text l) (codes "\n"))
 
-text_lines-text : (ls : List CertLine) → AreWritten ls → length ls ≤ 1000 → text_lines (text_of ls) ≡ map ended ls
-text_lines-text ls w few = ap (lines_from 0) (pieces-text ls w) ∙ lines_from-text ls 0 w (omega arith)
+lines_from-text : (ls : List CertLine) (start : ℕ) → AreWritten ls → start + length (text_of ls) ≤ 2 ^ 40 → lines_from start (map line_text ls ++ [] ∷ []) ≡ map ended ls
+lines_from-text [] start w within = refl
+lines_from-text (l ∷ []) start w within = lines_from-line start l [] [] [] w.0 (omega (arith, length-text_of l [])) refl
+lines_from-text (l ∷ m ∷ ls) start w within =
+    lines_from-line start l (line_text m) (map line_text ls ++ [] ∷ []) (map ended (m ∷ ls)) w.0 (omega (arith, length-text_of l (m ∷ ls)))
+    (lines_from-text (m ∷ ls) (start + length (line_text l) + 1) w.1 (omega (arith, length-text_of l (m ∷ ls))))
+
+text_lines-text : (ls : List CertLine) → AreWritten ls → length (text_of ls) ≤ 2 ^ 40 → text_lines (text_of ls) ≡ map ended ls
+text_lines-text ls w fits = ap (lines_from 0) (pieces-text ls w) ∙ lines_from-text ls 0 w (omega (arith, fits))
 
 -- ---- an order
 
-abbrev pub numbers_of_order : List ℕ → List ℤ
-numbers_of_order s = map (λ a. pos (a + 1)) s
-
-are_objects-order : (n : ℕ) (taken : List ℤ) (s : List ℕ) → ((p : ℕ) → p < length s → get_or s p 0 < n) → ((p q : ℕ) → p < q → q < length s → get_or s p 0 ≢ get_or s q 0) → ((p : ℕ) → p < length s → list_any (λ y. nat_abs y == get_or s p 0 + 1) taken ≡ false) → are_objects n taken (numbers_of_order s) ≡ true
+are_objects-order : (n : ℕ) (taken : List ℤ) (s : List ℕ) → ((p : ℕ) → p < length s → get_or s p 0 < n) → ((p q : ℕ) → p < q → q < length s → get_or s p 0 ≢ get_or s q 0) → ((p : ℕ) → p < length s → list_any (λ y. nat_abs y == get_or s p 0 + 1) taken ≡ false) → are_objects n taken (numbers_of_objects s) ≡ true
 are_objects-order n taken [] below distinct free = refl
 are_objects-order n taken (a ∷ s) below distinct free =
     let within : a < n = below 0 (omega arith) in
-    let others = are_objects n (pos (a + 1) ∷ taken) (numbers_of_order s) in
+    let others = are_objects n (pos (a + 1) ∷ taken) (numbers_of_objects s) in
     and_from _ _
     (and_from _ _ (le-leb 1 (a + 1) (omega arith)) (le-leb (a + 1) n (omega arith)))
     (ap (λ (t : Bool). cond t false others) (free 0 (omega arith))
     ∙ are_objects-order n (pos (a + 1) ∷ taken) s (λ p h. below (suc p) (omega arith)) (λ p q h k. distinct (suc p) (suc q) (omega arith) (omega arith))
     (λ p h. let other : a ≢ get_or s p 0 = distinct 0 (suc p) (omega arith) (omega arith) in or_from _ _ (ne_eqb (a + 1) (get_or s p 0 + 1) (λ e. other (omega arith))) (free (suc p) (omega arith))))
 
-is_order-order : (n : ℕ) (s : List ℕ) → IsOrder n s → is_order n (numbers_of_order s) ≡ true
+is_order-order : (n : ℕ) (s : List ℕ) → IsOrder n s → is_order n (numbers_of_objects s) ≡ true
 is_order-order n s order =
     and_from _ _ (eq-eqb _ n (length-map s (λ a. pos (a + 1)) ∙ order.complete))
     (are_objects-order n [] s (λ p h. order.below p (omega (arith, order.complete))) (λ p q h k. order.distinct p q h (omega (arith, order.complete))) (λ p h. refl))
 
-objects_of-order : (s : List ℕ) → objects_of (numbers_of_order s) ≡ s
-objects_of-order [] = refl
-objects_of-order (a ∷ s) =
-    let same : (a + 1) - 1 ≡ a = omega arith in
-    ap (λ (x : ℕ). x ∷ objects_of (numbers_of_order s)) same ∙ ap (λ (l : List ℕ). a ∷ l) (objects_of-order s)
-
-pub counts-order : (n : ℕ) (s : List ℕ) → n ≤ 512 → ((p : ℕ) → p < length s → get_or s p 0 < n) → list_all is_count (numbers_of_order s) ≡ true
+pub counts-order : (n : ℕ) (s : List ℕ) → n ≤ 512 → ((p : ℕ) → p < length s → get_or s p 0 < n) → list_all is_count (numbers_of_objects s) ≡ true
 counts-order n [] small below = refl
 counts-order n (a ∷ s) small below =
     let within : a < n = below 0 (omega arith) in
     and_from _ _ (lt-ltb (a + 1) (2 ^ 63) (omega arith)) (counts-order n s small (λ p h. below (suc p) (omega arith)))
 
-pub row-order : (s : List ℕ) → 0 < length s → list_all is_count (numbers_of_order s) ≡ true → is_row OrderLine (numbers_of_order s) ≡ true
-row-order [] some counts = absurd (omega arith)
-row-order (a ∷ s) some counts = counts
+pub row-objects : (s : List ℕ) → 0 < length s → list_all is_count (numbers_of_objects s) ≡ true → are_counts (numbers_of_objects s) ≡ true
+row-objects [] some counts = absurd (omega arith)
+row-objects (a ∷ s) some counts = counts
 
 -- ---- the walk
+
+-- a line that is spelled right
+spelled-line : (number : ℕ) (l : CertLine) (lines : List TextLine) (next : CertLine → List TextLine → CheckAnswer) → IsWritten l → spelled number (ended l ∷ lines) next ≡ next l lines
+spelled-line number l lines next w = ap (λ (o : Option CertLine). with_line number o (λ x. next x lines)) (line_reading-line_text l w.row)
 
 -- a line with the word that is due
 expect-line : (is_due : CertWord → Bool) (number : ℕ) (l : CertLine) (lines : List TextLine) (next : List ℤ → List TextLine → CheckAnswer) → IsWritten l → is_due l.word ≡ true → expect is_due number (ended l ∷ lines) next ≡ next l.numbers lines
 expect-line is_due number l lines next w due =
-    ap (λ (o : Option CertLine). with_line is_due number o (λ numbers. next numbers lines)) (line_reading-line_text l w.row)
+    spelled-line number l lines (λ x rest. cond (is_due x.word) (next x.numbers rest) (rejected number reason.Spelling)) w
     ∙ ap (λ (t : Bool). cond t (next l.numbers lines) (rejected number reason.Spelling)) due
 
 int_le-same : (z : ℤ) → int_le z z ≡ true
@@ -130,7 +141,7 @@ abbrev pub objects_line : Certificate → CertLine
 objects_line c = record { word = Objects; numbers = pos (length c.order) ∷ [] }
 
 abbrev pub order_line : Certificate → CertLine
-order_line c = record { word = OrderLine; numbers = numbers_of_order c.order }
+order_line c = record { word = OrderLine; numbers = numbers_of_objects c.order }
 
 abbrev pub value_line : Certificate → CertLine
 value_line c = record { word = Value; numbers = c.value ∷ [] }
@@ -138,28 +149,158 @@ value_line c = record { word = Value; numbers = c.value ∷ [] }
 abbrev pub bound_line : Certificate → CertLine
 bound_line c = record { word = Bound; numbers = c.bound ∷ [] }
 
-abbrev pub cuts_line : CertLine
-cuts_line = record { word = Cuts; numbers = pos 0 ∷ [] }
-
-abbrev pub leaf_line : CertLine
-leaf_line = record { word = Leaf; numbers = pos 1 ∷ pos 0 ∷ [] }
+abbrev pub cuts_line : Certificate → CertLine
+cuts_line c = record { word = Cuts; numbers = pos (length c.cuts) ∷ [] }
 
 abbrev pub end_line : CertLine
 end_line = record { word = End; numbers = [] }
 
 -- each line of a true certificate may be written
 
-pub version_written : IsWritten version_line
+version_written : IsWritten version_line
 version_written = written version_line refl (omega arith)
 
-pub cuts_written : IsWritten cuts_line
-cuts_written = written cuts_line refl (omega arith)
-
-pub leaf_written : IsWritten leaf_line
-leaf_written = written leaf_line refl (omega arith)
-
-pub end_written : IsWritten end_line
+end_written : IsWritten end_line
 end_written = written end_line refl (omega arith)
+
+AreWritten-append : (ls ms : List CertLine) → AreWritten ls → AreWritten ms → AreWritten (ls ++ ms)
+AreWritten-append [] ms w v = v
+AreWritten-append (l ∷ ls) ms w v = (w.0, AreWritten-append ls ms w.1 v)
+
+small_count : (k : ℕ) → k ≤ 1000 → is_count (pos k) ≡ true
+small_count k small = lt-ltb k (2 ^ 63) (omega arith)
+
+counts_below : (n : ℕ) (s : List ℕ) → n ≤ 512 → All (λ a. a < n) s → list_all is_count (numbers_of_objects s) ≡ true
+counts_below n [] small below = refl
+counts_below n (a ∷ s) small below =
+    let first : a < n = All-head (λ x. x < n) a s below in
+    and_from _ _ (lt-ltb (a + 1) (2 ^ 63) (omega arith)) (counts_below n s small (All-tail (λ x. x < n) a s below))
+
+length-cycle : (c : Cycle) → IsShapedCycle c → length (cycle_numbers c) ≤ 5
+length-cycle (Three objects) shaped = omega (arith, length-map objects (λ a. pos (a + 1)))
+length-cycle (Four objects) shaped = omega (arith, length-map objects (λ a. pos (a + 1)))
+
+cycle_counts : (n : ℕ) (c : Cycle) → n ≤ 512 → IsShapedCycle c → All (λ a. a < n) (cycle_objects c) → list_all is_count (cycle_numbers c) ≡ true
+cycle_counts n (Three objects) small shaped below = and_from _ _ (small_count (length objects) (omega arith)) (counts_below n objects small below)
+cycle_counts n (Four objects) small shaped below = and_from _ _ (small_count (length objects) (omega arith)) (counts_below n objects small below)
+
+All-append_parts : (P : ℕ → Type 0) (xs ys : List ℕ) → All P (xs ++ ys) → All P xs × All P ys
+All-append_parts P [] ys h = (λ k d l. absurd (omega arith), h)
+All-append_parts P (x ∷ xs) ys h =
+    let rest = All-append_parts P xs ys (All-tail P x (xs ++ ys) h) in
+    (All-cons P x xs (All-head P x (xs ++ ys) h) rest.0, rest.1)
+
+counts_both : (xs ys : List ℤ) → list_all is_count xs ≡ true → list_all is_count ys ≡ true → list_all is_count (xs ++ ys) ≡ true
+counts_both xs ys e f = list_all-append is_count xs ys ∙ and_from _ _ e f
+
+cycles_row : (n : ℕ) (cs : List Cycle) → n ≤ 512 → All IsShapedCycle cs → All (λ a. a < n) (flat_map cycle_objects cs) → (list_all is_count (flat_map cycle_numbers cs) ≡ true) × (length (flat_map cycle_numbers cs) ≤ 5 * length cs)
+cycles_row n [] small shaped below = (refl, omega arith)
+cycles_row n (c ∷ cs) small shaped below =
+    let parts = All-append_parts (λ a. a < n) (cycle_objects c) (flat_map cycle_objects cs) below in
+    let rest = cycles_row n cs small (All-tail IsShapedCycle c cs shaped) parts.1 in
+    let first = All-head IsShapedCycle c cs shaped in (
+      counts_both (cycle_numbers c) (flat_map cycle_numbers cs) (cycle_counts n c small first parts.0) rest.0,
+      omega (arith, length-append (cycle_numbers c) (flat_map cycle_numbers cs), length-cycle c first, rest.1),
+    )
+
+cut_written : (n : ℕ) (cut : CutKind) → n ≤ 512 → IsCut cut → FitsCut n cut → IsShapedCut cut → IsWritten (cut_line cut)
+cut_written n (kind.Dicycle objects) small right fits shaped =
+    let size : length objects ≡ 3 = right.size in
+    written (cut_line (kind.Dicycle objects)) (row-objects objects (omega arith) (counts_below n objects small fits)) (omega (arith, length-map objects (λ a. pos (a + 1))))
+cut_written n (kind.Fence u w) small right fits shaped =
+    let most : length u.items ≤ 8 = right.at_most in
+    let same : length u.items ≡ length w.items = right.same_length in
+    written (cut_line (kind.Fence u w)) (and_from _ _ (small_count (length u.items) (omega arith)) (counts_below n (u.items ++ w.items) small fits)) (omega (arith, length-map (u.items ++ w.items) (λ a. pos (a + 1)), length-append u.items w.items))
+cut_written n (kind.Ladder cycles) small right fits shaped =
+    let most : length (map cycle_objects cycles.items) ≤ 9 = right.at_most in
+    let size : length (map cycle_objects cycles.items) ≡ length cycles.items = length-map cycles.items cycle_objects in
+    let row = cycles_row n cycles.items small shaped fits in
+    written (cut_line (kind.Ladder cycles)) (and_from _ _ (small_count (length cycles.items) (omega arith)) row.0) (omega (arith, row.1))
+
+cuts_written : (n : ℕ) (cs : List CutKind) → n ≤ 512 → All IsCut cs → All (FitsCut n) cs → All IsShapedCut cs → AreWritten (map cut_line cs)
+cuts_written n [] small right fits shaped = tt
+cuts_written n (c ∷ cs) small right fits shaped =
+    (cut_written n c small (All-head IsCut c cs right) (All-head (FitsCut n) c cs fits) (All-head IsShapedCut c cs shaped), cuts_written n cs small (All-tail IsCut c cs right) (All-tail (FitsCut n) c cs fits) (All-tail IsShapedCut c cs shaped))
+
+leaf_written : (C : Matrix) (cuts : List CutKind) (b : ℤ) (path : List Pair) (l : LeafTerms) → length cuts ≤ most_cuts → IsLeaf C cuts b path l → IsWritten (leaf_line l)
+leaf_written C cuts b path l few is =
+    let scale : l.scale ≤ 65536 = is.within_limit in
+    let terms : length l.terms ≤ 4096 = is.few in
+    let numbered = numbered-rising 0 (length cuts) l.terms is.rising in
+    record {
+      row = and_from _ _ (lt-ltb l.scale (2 ^ 63) (omega arith)) (and_from _ _ (lt-ltb (length l.terms) (2 ^ 63) (omega arith)) (counts-terms (length cuts) l.terms few numbered is.multipliers));
+      short = length-leaf_line (length cuts) l few is.within_limit is.few numbered is.multipliers;
+    }
+
+module _ (C : Matrix) (weights : IsWeights C) (cuts : List CutKind) (bound : ℤ) (few : length cuts ≤ most_cuts) where
+  split_written : (path : List Pair) (p : Pair) → p.before < C.size → p.after < C.size → IsWritten (split_line p)
+  split_written path p first second =
+      let limit : C.size ≤ 512 = weights.within_limit in
+      written (split_line p) (and_from _ _ (lt-ltb (p.before + 1) (2 ^ 63) (omega arith)) (and_from _ _ (lt-ltb (p.after + 1) (2 ^ 63) (omega arith)) refl)) (omega arith)
+
+  tree_written : (path : List Pair) (tree : Tree) → IsTree C cuts bound path tree → AreWritten (tree_lines tree)
+  tree_written path (leaf l) is = (leaf_written C cuts bound path l few is, tt)
+  tree_written path (split p first second) is =
+      (split_written path p is.0.first is.0.second, AreWritten-append (tree_lines first) (tree_lines second) (tree_written (path ++ p ∷ []) first is.1) (tree_written (path ++ reversed p ∷ []) second is.2))
+
+  -- ---- the tree
+
+  module _ (value : ℤ) where
+    leaf_holds : (path : List Pair) (pending : List (List Pair)) (number : ℕ) (l : LeafTerms) (rest : List TextLine) → IsLeaf C cuts bound path l → tree_step C cuts value bound (path ∷ pending) number (ended (leaf_line l) ∷ rest) ≡ tree_step C cuts value bound pending (number + 1) rest
+    leaf_holds path pending number l rest is =
+        let next : List (List Pair) → CheckAnswer = λ left. tree_step C cuts value bound left (number + 1) rest in
+        let w = leaf_written C cuts bound path l few is in
+        let high = rejected number (reason.High (leaf_value C cuts path l) (leaf_limit l bound)) in
+        ap (λ (o : Option CertLine). with_line number o (λ x. node_step C cuts bound path pending number x.word x.numbers next)) (line_reading-line_text (leaf_line l) w.row)
+        ∙ ap (λ (o : Option LeafTerms). leaf_step C cuts bound path pending number o next) (leaf_of-line (length cuts) l is.positive is.within_limit is.few is.rising)
+        ∙ ap (λ (t : Bool). cond t (next pending) high) (int_lt-true (leaf_value C cuts path l) (leaf_limit l bound) is.certified)
+
+    split_holds : (path : List Pair) (pending : List (List Pair)) (number : ℕ) (p : Pair) (lines : List TextLine) (first second : Tree) → IsTree C cuts bound path (split p first second) → tree_step C cuts value bound (path ∷ pending) number (ended (split_line p) ∷ lines) ≡ tree_step C cuts value bound ((path ++ p ∷ []) ∷ (path ++ reversed p ∷ []) ∷ pending) (number + 1) lines
+    split_holds path pending number p lines first second is =
+        let next : List (List Pair) → CheckAnswer = λ left. tree_step C cuts value bound left (number + 1) lines in
+        let w = split_written path p is.0.first is.0.second in
+        ap (λ (o : Option CertLine). with_line number o (λ x. node_step C cuts bound path pending number x.word x.numbers next)) (line_reading-line_text (split_line p) w.row)
+        ∙ ap (λ (o : Option Pair). split_step path pending number o next) (split_of-line C.size path p is.0)
+
+    -- the lines of a true tree take its path away
+    tree_holds : (path : List Pair) (tree : Tree) → IsTree C cuts bound path tree → (pending : List (List Pair)) (number : ℕ) (rest : List TextLine) → tree_step C cuts value bound (path ∷ pending) number (map ended (tree_lines tree) ++ rest) ≡ tree_step C cuts value bound pending (number + length (tree_lines tree)) rest
+    tree_holds path (leaf l) is pending number rest = leaf_holds path pending number l rest is
+    tree_holds path (split p first second) is pending number rest =
+        let here = map ended (tree_lines first) in
+        let there = map ended (tree_lines second) in
+        let count : (number + 1) + length (tree_lines first) + length (tree_lines second) ≡ number + length (tree_lines (split p first second)) = omega (arith, length-append (tree_lines first) (tree_lines second)) in
+        let paths = (path ++ p ∷ []) ∷ (path ++ reversed p ∷ []) ∷ pending in
+        split_holds path pending number p (map ended (tree_lines first ++ tree_lines second) ++ rest) first second is
+        ∙ ap (λ (ls : List TextLine). tree_step C cuts value bound paths (number + 1) (ls ++ rest)) (map-append ended (tree_lines first) (tree_lines second))
+        ∙ ap (tree_step C cuts value bound paths (number + 1)) (append_assoc here there rest)
+        ∙ tree_holds (path ++ p ∷ []) first is.1 ((path ++ reversed p ∷ []) ∷ pending) (number + 1) (there ++ rest)
+        ∙ tree_holds (path ++ reversed p ∷ []) second is.2 pending ((number + 1) + length (tree_lines first)) rest
+        ∙ ap (λ (k : ℕ). tree_step C cuts value bound pending k rest) count
+
+is_cut_word-line : (cut : CutKind) → is_cut_word (cut_line cut).word ≡ true
+is_cut_word-line (kind.Dicycle objects) = refl
+is_cut_word-line (kind.Fence u w) = refl
+is_cut_word-line (kind.Ladder cycles) = refl
+
+-- the lines of cuts are read as those cuts
+cuts_hold : (C : Matrix) (value bound : ℤ) → IsWeights C → (cs : List CutKind) → All IsCut cs → All (FitsCut C.size) cs → All IsShapedCut cs → (cuts : List CutKind) (number : ℕ) (rest : List TextLine) → cuts_left_step C value bound (length cs) cuts number (map ended (map cut_line cs) ++ rest) ≡ tree_step C (cuts ++ cs) value bound ([] ∷ []) (number + length cs) rest
+cuts_hold C value bound weights [] right fits shaped cuts number rest =
+    let same : number ≡ number + 0 = omega arith in
+    ap (λ (l : List CutKind). tree_step C l value bound ([] ∷ []) number rest) (sym (append-nil cuts)) ∙ ap (λ (k : ℕ). tree_step C (cuts ++ []) value bound ([] ∷ []) k rest) same
+cuts_hold C value bound weights (c ∷ cs) right fits shaped cuts number rest =
+    let lines = map ended (map cut_line cs) ++ rest in
+    let l = cut_line c in
+    let is = All-head IsCut c cs right in
+    let in_n = All-head (FitsCut C.size) c cs fits in
+    let shape = All-head IsShapedCut c cs shaped in
+    let next : CutKind → CheckAnswer = λ cut. cuts_left_step C value bound (length cs) (cuts ++ cut ∷ []) (number + 1) lines in
+    let count : (number + 1) + length cs ≡ number + length (c ∷ cs) = omega arith in
+    spelled-line number l lines (λ line after. cut_step C.size number line.word line.numbers (λ cut. cuts_left_step C value bound (length cs) (cuts ++ cut ∷ []) (number + 1) after)) (cut_written C.size c weights.within_limit is in_n shape)
+    ∙ ap (λ (t : Bool). cond t (with_cut number (cut_of C.size l.word l.numbers) next) (rejected number reason.Spelling)) (is_cut_word-line c)
+    ∙ ap (λ (o : Option CutKind). with_cut number o next) (cut_of-line C.size c is in_n shape)
+    ∙ cuts_hold C value bound weights cs (All-tail IsCut c cs right) (All-tail (FitsCut C.size) c cs fits) (All-tail IsShapedCut c cs shaped) (cuts ++ c ∷ []) (number + 1) rest
+    ∙ ap (λ (m : List CutKind). tree_step C m value bound ([] ∷ []) ((number + 1) + length cs) rest) (append_assoc cuts (c ∷ []) cs)
+    ∙ ap (λ (k : ℕ). tree_step C (cuts ++ c ∷ cs) value bound ([] ∷ []) k rest) count
 
 module _ (C : Matrix) (weights : IsWeights C) (c : Certificate) (holds : IsTreeCertificate C c) where
   size_is : length c.order ≡ C.size
@@ -168,32 +309,47 @@ module _ (C : Matrix) (weights : IsWeights C) (c : Certificate) (holds : IsTreeC
   below : (p : ℕ) → p < length c.order → get_or c.order p 0 < C.size
   below p h = holds.order_is.below p (omega (arith, size_is))
 
-  pub objects_written : IsWritten (objects_line c)
+  objects_written : IsWritten (objects_line c)
   objects_written = written (objects_line c) (lt-ltb (length c.order) (2 ^ 63) (omega (arith, weights.within_limit, size_is))) (omega arith)
 
-  pub order_written : IsWritten (order_line c)
+  order_written : IsWritten (order_line c)
   order_written =
       let counts = counts-order C.size c.order weights.within_limit below in
-      written (order_line c) (row-order c.order (omega (arith, weights.positive, size_is)) counts) (omega (arith, length-map c.order (λ a. pos (a + 1)), weights.within_limit, size_is))
+      written (order_line c) (row-objects c.order (omega (arith, weights.positive, size_is)) counts) (omega (arith, length-map c.order (λ a. pos (a + 1)), weights.within_limit, size_is))
 
-  pub value_written : IsWritten (value_line c)
+  value_written : IsWritten (value_line c)
   value_written = written (value_line c) (lt-ltb (nat_abs c.value) (2 ^ 63) holds.value_fits) (omega arith)
 
-  pub bound_written : IsWritten (bound_line c)
+  bound_written : IsWritten (bound_line c)
   bound_written = written (bound_line c) (lt-ltb (nat_abs c.bound) (2 ^ 63) holds.bound_fits) (omega arith)
 
+  count_written : IsWritten (cuts_line c)
+  count_written = written (cuts_line c) (and_from _ _ (le-leb 0 (length c.cuts) (omega arith)) (le-leb (length c.cuts) most_cuts holds.few_cuts)) (omega arith)
+
   -- the lines from each step on
-  abbrev from_end : List TextLine
-  from_end = ended end_line ∷ []
+  abbrev from_tree : List CertLine
+  from_tree = tree_lines c.tree ++ end_line ∷ []
 
-  abbrev from_leaf : List TextLine
-  from_leaf = ended leaf_line ∷ from_end
+  abbrev from_cuts : List CertLine
+  from_cuts = map cut_line c.cuts ++ from_tree
 
-  abbrev from_cuts : List TextLine
-  from_cuts = ended cuts_line ∷ from_leaf
+  tree_accepted : (number : ℕ) → tree_step C c.cuts c.value c.bound ([] ∷ []) number (map ended from_tree) ≡ accepted c.value c.bound
+  tree_accepted number =
+      ap (tree_step C c.cuts c.value c.bound ([] ∷ []) number) (map-append ended (tree_lines c.tree) (end_line ∷ []))
+      ∙ tree_holds C weights c.cuts c.bound holds.few_cuts c.value [] c.tree holds.tree_is [] number (ended end_line ∷ [])
+      ∙ expect-line is_end (number + length (tree_lines c.tree)) end_line [] (λ _ rest. tail_step c.value c.bound (number + length (tree_lines c.tree) + 1) rest) end_written refl
+
+  cuts_accepted : cuts_left_step C c.value c.bound (length c.cuts) [] 7 (map ended from_cuts) ≡ accepted c.value c.bound
+  cuts_accepted =
+      ap (cuts_left_step C c.value c.bound (length c.cuts) [] 7) (map-append ended (map cut_line c.cuts) from_tree)
+      ∙ cuts_hold C c.value c.bound weights c.cuts holds.cuts_are holds.cuts_fit holds.cuts_shaped [] 7 (map ended from_tree)
+      ∙ tree_accepted (7 + length c.cuts)
+
+  abbrev from_count : List TextLine
+  from_count = ended (cuts_line c) ∷ map ended from_cuts
 
   abbrev from_bound : List TextLine
-  from_bound = ended (bound_line c) ∷ from_cuts
+  from_bound = ended (bound_line c) ∷ from_count
 
   abbrev from_value : List TextLine
   from_value = ended (value_line c) ∷ from_bound
@@ -204,21 +360,11 @@ module _ (C : Matrix) (weights : IsWeights C) (c : Certificate) (holds : IsTreeC
   abbrev from_objects : List TextLine
   from_objects = ended (objects_line c) ∷ from_order
 
-  end_holds : end_step c.value c.bound from_end ≡ accepted c.value c.bound
-  end_holds = expect-line is_end 8 end_line [] (λ _ rest. tail_step c.value c.bound rest) end_written refl
-
-  leaf_holds : leaf_step C c.value c.bound from_leaf ≡ accepted c.value c.bound
-  leaf_holds =
-      let high : CheckAnswer = rejected 7 (reason.High (pair_bound C []) (c.bound +ℤ pos 1)) in
-      expect-line is_leaf 7 leaf_line from_end (λ _ rest. cond (int_lt (pair_bound C []) (c.bound +ℤ pos 1)) (end_step c.value c.bound rest) high) leaf_written refl
-      ∙ ap (λ (t : Bool). cond t (end_step c.value c.bound from_end) high) (int_lt-true (pair_bound C []) (c.bound +ℤ pos 1) holds.certified)
-      ∙ end_holds
-
-  cuts_holds : cuts_step C c.value c.bound from_cuts ≡ accepted c.value c.bound
-  cuts_holds = expect-line is_cuts 6 cuts_line from_leaf (λ _ rest. leaf_step C c.value c.bound rest) cuts_written refl ∙ leaf_holds
+  count_holds : cuts_step C c.value c.bound from_count ≡ accepted c.value c.bound
+  count_holds = expect-line is_cuts 6 (cuts_line c) (map ended from_cuts) (λ numbers rest. cuts_left_step C c.value c.bound (nat_abs (only_number numbers)) [] 7 rest) count_written refl ∙ cuts_accepted
 
   bound_holds : bound_step C c.value from_bound ≡ accepted c.value c.bound
-  bound_holds = expect-line is_bound 5 (bound_line c) from_cuts (λ numbers rest. cuts_step C c.value (only_number numbers) rest) bound_written refl ∙ cuts_holds
+  bound_holds = expect-line is_bound 5 (bound_line c) from_count (λ numbers rest. cuts_step C c.value (only_number numbers) rest) bound_written refl ∙ count_holds
 
   value_holds : value_step C c.order from_value ≡ accepted c.value c.bound
   value_holds =
@@ -231,8 +377,8 @@ module _ (C : Matrix) (weights : IsWeights C) (c : Certificate) (holds : IsTreeC
   order_holds : order_step C from_order ≡ accepted c.value c.bound
   order_holds =
       expect-line is_order_line 3 (order_line c) from_value (λ numbers rest. cond (is_order C.size numbers) (value_step C (objects_of numbers) rest) (rejected 3 reason.OrderLine)) order_written refl
-      ∙ ap (λ (t : Bool). cond t (value_step C (objects_of (numbers_of_order c.order)) from_value) (rejected 3 reason.OrderLine)) (is_order-order C.size c.order holds.order_is)
-      ∙ ap (λ (s : List ℕ). value_step C s from_value) (objects_of-order c.order)
+      ∙ ap (λ (t : Bool). cond t (value_step C (objects_of (numbers_of_objects c.order)) from_value) (rejected 3 reason.OrderLine)) (is_order-order C.size c.order holds.order_is)
+      ∙ ap (λ (s : List ℕ). value_step C s from_value) (objects_of-numbers c.order)
       ∙ value_holds
 
   objects_holds : objects_step C from_objects ≡ accepted c.value c.bound
@@ -242,15 +388,12 @@ module _ (C : Matrix) (weights : IsWeights C) (c : Certificate) (holds : IsTreeC
       ∙ order_holds
 
   lines_written : AreWritten (certificate_lines c)
-  lines_written = (version_written, (objects_written, (order_written, (value_written, (bound_written, (cuts_written, (leaf_written, (end_written, tt))))))))
+  lines_written =
+      (version_written, (objects_written, (order_written, (value_written, (bound_written, (count_written, AreWritten-append (map cut_line c.cuts) from_tree (cuts_written C.size c.cuts weights.within_limit holds.cuts_are holds.cuts_fit holds.cuts_shaped) (AreWritten-append (tree_lines c.tree) (end_line ∷ []) (tree_written C weights c.cuts c.bound holds.few_cuts [] c.tree holds.tree_is) (end_written, tt))))))))
 
   -- the text of a true certificate is accepted, with its value and bound
-  pub check_answer-certificate_text : check_answer C (certificate_text c) ≡ accepted c.value c.bound
-  check_answer-certificate_text =
-      ap (λ (lines : List TextLine). expect is_version 1 lines (λ _ rest. objects_step C rest)) (text_lines-text (certificate_lines c) lines_written (omega arith))
+  pub check_answer-certificate_text : length (certificate_text c) ≤ 2 ^ 40 → check_answer C (certificate_text c) ≡ accepted c.value c.bound
+  check_answer-certificate_text fits =
+      ap (λ (lines : List TextLine). expect is_version 1 lines (λ _ rest. objects_step C rest)) (text_lines-text (certificate_lines c) lines_written fits)
       ∙ expect-line is_version 1 version_line from_objects (λ _ rest. objects_step C rest) version_written refl
       ∙ objects_holds
-
--- no order weighs more than the bound of a certificate that is true
-pub IsUpperBound-certificate : (C : Matrix) (c : Certificate) → IsTreeCertificate C c → IsUpperBound C c.bound
-IsUpperBound-certificate C c holds = record { each = λ s order. omega (arith, ints, (IsUpperBound-pair_bound C).each s order, holds.certified) }

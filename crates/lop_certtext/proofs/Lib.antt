@@ -1,5 +1,12 @@
 pub mod Numbers
 pub mod Lines
 pub mod Steps
+pub mod PairList
+pub mod ChainLemmas
+pub mod TreeBounds
+pub mod CutTests
+pub mod ObjectNumbers
+pub mod CutText
+pub mod NodeText
 pub mod AcceptedText
 pub mod OnlyTrue

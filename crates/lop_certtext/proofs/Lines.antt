@@ -1,16 +1,17 @@
 -- A line and its one spelling.
 use Rattle.std.proofs.Common.{◌≡◌, ℕ, ◌+◌, ◌*◌, ◌^◌, ◌≤◌, zero, suc, Bool, true, false, not, ◌==◌, cond, List, [], ◌∷◌, ◌++◌, length, map, ℤ, pos, negsuc, nat_abs, Option, None, Some, refl, sym, ◌∙◌, ap, arith}
+use Rattle.std.specs.Prelude.{int_le, ◌&&◌}
 use Rattle.std.specs.Fmt.{signed_decimal}
 use Rattle.std.specs.List.{list_all, flat_map, join_with_byte, All}
 use Rattle.std.specs.Str.{bytes_eq}
-use Rattle.std.proofs.lemmas.Bool.{and_parts, and_from, false≢true, not-true, ltb-true}
+use Rattle.std.proofs.lemmas.Bool.{and_parts, and_from, false≢true, not-true, ltb-true, leb-true, lt-ltb}
 use Rattle.std.proofs.lemmas.List.{append-nil, length-append}
 use Rattle.std.proofs.lemmas.List.Folds.{list_all-append}
 use Rattle.std.proofs.lemmas.List.Splits.{join_with_byte-slice_split, slice_split_none, slice_split_at}
 use Rattle.std.proofs.lemmas.Slice.Eq.{bytes_eq-Decides}
 use Rattle.lop_certtext.specs.declared.word.CertWord.{CertWord}
 use Rattle.lop_certtext.specs.declared.word.CertWord.TheVariants.{Version, Objects, OrderLine, Value, Bound, Cuts, Dicycle, Fence, Ladder, SplitLine, Leaf, End}
-use Rattle.lop_certtext.specs.Line.{CertLine, word_text, is_count, is_signed, is_row, line_text, numbers_of, first_word, cert_words, row_of, pieces_reading, line_reading}
+use Rattle.lop_certtext.specs.Line.{CertLine, word_text, most_cuts, is_count, is_signed, are_counts, is_row, line_text, numbers_of, first_word, cert_words, row_of, pieces_reading, line_reading}
 use Rattle.lop_certtext.specs.Reading.{pieces, number_word}
 use Rattle.lop_certtext.proofs.Numbers.{is_free, number_free, signed_decimals-numbers_of, numbers_of-signed_decimals, length-number_words}
 
@@ -26,15 +27,29 @@ all_signed-counts (n ∷ ns) e =
     let parts = and_parts (is_count n) (list_all is_count ns) e in
     and_from _ _ (is_signed-count n parts.0) (all_signed-counts ns parts.1)
 
+all_signed-are_counts : (ns : List ℤ) → are_counts ns ≡ true → list_all is_signed ns ≡ true
+all_signed-are_counts [] e = absurd (false≢true e)
+all_signed-are_counts (n ∷ ns) e = all_signed-counts (n ∷ ns) e
+
+small_count : (n : ℤ) → (int_le (pos 0) n && int_le n (pos most_cuts)) ≡ true → is_signed n ≡ true
+small_count (pos n) e =
+    let most : n ≤ most_cuts = leb-true n most_cuts (and_parts (int_le (pos 0) (pos n)) (int_le (pos n) (pos most_cuts)) e).1 in
+    lt-ltb n (2 ^ 63) (omega arith)
+small_count (negsuc n) e = absurd (false≢true e)
+
 -- the numbers behind a word are at most 2^63 - 1 in absolute value
 pub all_signed-row : (w : CertWord) (ns : List ℤ) → is_row w ns ≡ true → list_all is_signed ns ≡ true
 all_signed-row Version (pos (suc zero) ∷ []) e = refl
 all_signed-row Objects (n ∷ []) e = and_from _ _ (is_signed-count n e) refl
-all_signed-row OrderLine (n ∷ ns) e = all_signed-counts (n ∷ ns) e
+all_signed-row OrderLine ns e = all_signed-are_counts ns e
 all_signed-row Value (n ∷ []) e = and_from _ _ e refl
 all_signed-row Bound (n ∷ []) e = and_from _ _ e refl
-all_signed-row Cuts (pos zero ∷ []) e = refl
-all_signed-row Leaf (pos (suc zero) ∷ pos zero ∷ []) e = refl
+all_signed-row Cuts (n ∷ []) e = and_from _ _ (small_count n e) refl
+all_signed-row Dicycle ns e = all_signed-are_counts ns e
+all_signed-row Fence ns e = all_signed-are_counts ns e
+all_signed-row Ladder ns e = all_signed-are_counts ns e
+all_signed-row SplitLine ns e = all_signed-are_counts ns e
+all_signed-row Leaf ns e = all_signed-are_counts ns e
 all_signed-row End [] e = refl
 all_signed-row w ns e = absurd (false≢true e)
 

@@ -1,24 +1,33 @@
 -- Nothing is accepted but the text of a certificate that is true.
-use Rattle.std.proofs.Common.{◌≡◌, ◌≢◌, ℕ, ◌+◌, ◌-◌, ◌^◌, ◌<◌, ◌≤◌, zero, suc, Bool, true, false, ◌&&◌, ◌==◌, cond, List, [], ◌∷◌, ◌++◌, length, map, codes, nat_lt, nat_le, get_or, ℤ, pos, negsuc, nat_abs, ◌+ℤ◌, Option, None, Some, refl, sym, ◌∙◌, ap, subst, arith}
-use Rattle.std.specs.Prelude.{int_lt, int_le, ◌<ℤ◌}
+use Rattle.std.proofs.Common.{◌≡◌, ◌≢◌, ℕ, ◌+◌, ◌-◌, ◌^◌, ◌<◌, ◌≤◌, zero, suc, Bool, true, false, ◌&&◌, ◌==◌, cond, List, [], ◌∷◌, ◌++◌, length, map, codes, nat_lt, nat_le, get_or, ℤ, pos, negsuc, nat_abs, Option, None, Some, refl, sym, ◌∙◌, ap, subst, arith}
+use Rattle.std.specs.Prelude.{int_lt, int_le, ◌<ℤ◌, All}
 use Rattle.std.specs.List.{list_any, slice_split, join_with_byte}
-use Rattle.std.proofs.lemmas.Bool.{and_parts, or_parts, false≢true, ltb-true, leb-true, eqb-true, eqb-false}
+use Rattle.std.proofs.lemmas.Bool.{and_parts, or_parts, false≢true, ltb-true, ltb-false, leb-true, eqb-true, eqb-false}
 use Rattle.std.proofs.lemmas.Int.{ints}
-use Rattle.std.proofs.lemmas.List.{append_assoc, append-nil, length-map}
+use Rattle.std.proofs.lemmas.List.{append_assoc, append-nil, length-map, map-append}
+use Rattle.std.proofs.lemmas.List.Elements.{All-nil, All-cons}
 use Rattle.std.proofs.lemmas.List.Splits.{join_with_byte-slice_split, length-slice_split}
+use Rattle.lop_model.specs.declared.pair.Pair.{Pair}
 use Rattle.lop_model.specs.Order.{IsOrder}
 use Rattle.lop_model.specs.Matrix.{Matrix, weight}
-use Rattle.lop_model.specs.Bound.{pair_bound}
+use Rattle.lop_cuts.specs.declared.kind.CutKind.{CutKind}
+use Rattle.lop_cuts.specs.Kind.{IsCut, FitsCut}
 use Rattle.lop_certtext.specs.declared.word.CertWord.{CertWord}
-use Rattle.lop_certtext.specs.declared.word.CertWord.TheVariants.{Version, Objects, OrderLine, Value, Bound, Cuts, Leaf, End}
+use Rattle.lop_certtext.specs.declared.word.CertWord.TheVariants.{Version, Objects, OrderLine, Value, Bound, Cuts, SplitLine, Leaf, End}
 use Rattle.lop_certtext.specs.declared.reason.Reason.{Reason}
 use Rattle.lop_certtext.specs.declared.reason.Reason.TheVariants as reason
-use Rattle.lop_certtext.specs.Line.{CertLine, is_count, is_signed, is_row, line_text, line_reading, first_word, cert_words, numbers_of, row_of, pieces_reading}
+use Rattle.lop_certtext.specs.Line.{CertLine, most_cuts, is_count, is_signed, is_row, line_text, line_reading, first_word, cert_words, numbers_of, row_of, pieces_reading}
 use Rattle.lop_certtext.specs.Reading.{pieces}
-use Rattle.lop_certtext.specs.Certificate.{Certificate, certificate_lines, certificate_text, IsTreeCertificate}
-use Rattle.lop_certtext.specs.Answer.{TextLine, ended_line, unended_line, long_line, long_file, limited, lines_from, text_lines, CheckAnswer, accepted, rejected, with_line, expect, is_version, is_objects, is_order_line, is_value, is_bound, is_cuts, is_leaf, is_end, only_number, are_objects, is_order, objects_of, objects_step, order_step, value_step, bound_step, cuts_step, leaf_step, end_step, tail_step, check_answer}
+use Rattle.lop_certtext.specs.Chains.{reversed}
+use Rattle.lop_certtext.specs.CutLine.{numbers_of_objects, objects_of, cut_line, cut_of, IsShapedCut}
+use Rattle.lop_certtext.specs.LeafLine.{LeafTerms, leaf_line, leaf_of}
+use Rattle.lop_certtext.specs.Tree.{Tree, leaf, split, split_line, tree_lines, IsTree}
+use Rattle.lop_certtext.specs.Certificate.{Certificate, certificate_lines, text_of, IsTreeCertificate, IsCertificateText}
+use Rattle.lop_certtext.specs.Answer.{TextLine, ended_line, unended_line, long_line, long_file, limited, lines_from, text_lines, CheckAnswer, accepted, rejected, with_line, spelled, expect, is_version, is_objects, is_order_line, is_value, is_bound, is_cuts, is_end, only_number, are_objects, is_order, objects_step, order_step, value_step, bound_step, cuts_step, cuts_left_step, is_cut_word, with_cut, cut_step, tree_step, node_step, split_step, leaf_step, leaf_value, leaf_limit, split_of, end_step, tail_step, check_answer}
 use Rattle.lop_certtext.proofs.Lines.{line_text-line_reading}
-use Rattle.lop_certtext.proofs.AcceptedText.{numbers_of_order, ended, text_of, lines_from-more, version_line, objects_line, order_line, value_line, bound_line, cuts_line, leaf_line, end_line}
+use Rattle.lop_certtext.proofs.CutText.{count_is, line-cut_of}
+use Rattle.lop_certtext.proofs.NodeText.{line-leaf_of, line-split_of}
+use Rattle.lop_certtext.proofs.AcceptedText.{ended, length-text_of, lines_from-more, version_line, objects_line, order_line, value_line, bound_line, cuts_line, end_line}
 
 -- ---- rows
 
@@ -54,13 +63,10 @@ row-bound : (ns : List ℤ) → is_row Bound ns ≡ true → (ns ≡ only_number
 row-bound (n ∷ []) e = (refl, e)
 row-bound ns e = absurd (false≢true e)
 
-row-cuts : (ns : List ℤ) → is_row Cuts ns ≡ true → ns ≡ pos 0 ∷ []
-row-cuts (pos zero ∷ []) e = refl
+row-cuts : (ns : List ℤ) → is_row Cuts ns ≡ true → (ns ≡ only_number ns ∷ []) × (pos (nat_abs (only_number ns)) ≡ only_number ns) × (nat_abs (only_number ns) ≤ most_cuts)
+row-cuts (pos n ∷ []) e = (refl, refl, leb-true n most_cuts (and_parts (int_le (pos 0) (pos n)) (int_le (pos n) (pos most_cuts)) e).1)
+row-cuts (negsuc n ∷ []) e = absurd (false≢true e)
 row-cuts ns e = absurd (false≢true e)
-
-row-leaf : (ns : List ℤ) → is_row Leaf ns ≡ true → ns ≡ pos 1 ∷ pos 0 ∷ []
-row-leaf (pos (suc zero) ∷ pos zero ∷ []) e = refl
-row-leaf ns e = absurd (false≢true e)
 
 row-end : (ns : List ℤ) → is_row End ns ≡ true → ns ≡ []
 row-end [] e = refl
@@ -91,10 +97,6 @@ due-bound w e = absurd (false≢true e)
 due-cuts : (w : CertWord) → is_cuts w ≡ true → w ≡ Cuts
 due-cuts Cuts e = refl
 due-cuts w e = absurd (false≢true e)
-
-due-leaf : (w : CertWord) → is_leaf w ≡ true → w ≡ Leaf
-due-leaf Leaf e = refl
-due-leaf w e = absurd (false≢true e)
 
 due-end : (w : CertWord) → is_end w ≡ true → w ≡ End
 due-end End e = refl
@@ -146,47 +148,73 @@ text-text_lines bytes ls e =
     let some : 0 < length ps = omega (arith, length-slice_split (λ b. b == 10) bytes) in
     sym (join_with_byte-slice_split 10 bytes) ∙ ap (join_with_byte 10) (pieces-lines_from ps 0 ls some e) ∙ joined-text ls
 
+limited-ended_within : (start : ℕ) (piece bytes : List ℕ) → limited start piece true ≡ ended_line bytes → start + length piece + 1 ≤ 2 ^ 40
+limited-ended_within start piece bytes e = by (nat_lt 131072 (length piece) && nat_le (start + 131072) (2 ^ 40)) (nat_lt (2 ^ 40) (start + length piece + 1)) refl e
+  where
+    by : (s t : Bool) → nat_lt (2 ^ 40) (start + length piece + 1) ≡ t → cond s long_line (cond t long_file (ended_line piece)) ≡ ended_line bytes → start + length piece + 1 ≤ 2 ^ 40
+    by true t is e = absurd (cc)
+    by false true is e = absurd (cc)
+    by false false is e = ltb-false (2 ^ 40) (start + length piece + 1) is
+
+-- a text whose lines are all ended has at most 2^40 bytes
+within-lines_from : (ps : List (List ℕ)) (start : ℕ) (ls : List CertLine) → start ≤ 2 ^ 40 → lines_from start ps ≡ map ended ls → start + length (text_of ls) ≤ 2 ^ 40
+within-lines_from [] start [] small e = omega arith
+within-lines_from [] start (l ∷ ls) small e = absurd (cc)
+within-lines_from ([] ∷ []) start [] small e = omega arith
+within-lines_from ([] ∷ []) start (l ∷ ls) small e = absurd (cc)
+within-lines_from ((b ∷ bs) ∷ []) start [] small e = absurd (cc)
+within-lines_from ((b ∷ bs) ∷ []) start (l ∷ ls) small e =
+    let first : limited start (b ∷ bs) false ≡ ended l = cc in
+    absurd (limited-unended start (b ∷ bs) (line_text l) first)
+within-lines_from (p ∷ q ∷ ps) start [] small e = let more = sym (lines_from-more start p q ps) ∙ e in absurd (cc)
+within-lines_from (p ∷ q ∷ ps) start (l ∷ ls) small e =
+    let more = sym (lines_from-more start p q ps) ∙ e in
+    let first : limited start p true ≡ ended l = cc in
+    let others : lines_from (start + length p + 1) (q ∷ ps) ≡ map ended ls = cc in
+    let same : p ≡ line_text l = limited-ended_is start p (line_text l) first in
+    omega (arith, length-text_of l ls, ap length same, within-lines_from (q ∷ ps) (start + length p + 1) ls (limited-ended_within start p (line_text l) first) others)
+
 -- ---- an order
 
 cond-true_is : (s t : Bool) → cond s false t ≡ true → (s ≡ false) × (t ≡ true)
 cond-true_is true t e = absurd (false≢true e)
 cond-true_is false t e = (refl, e)
 
-numbers_of_order-objects_of : (n : ℕ) (taken ns : List ℤ) → are_objects n taken ns ≡ true → numbers_of_order (objects_of ns) ≡ ns
-numbers_of_order-objects_of n taken [] e = refl
-numbers_of_order-objects_of n taken (pos zero ∷ ns) e = absurd (false≢true e)
-numbers_of_order-objects_of n taken (pos (suc a) ∷ ns) e =
+numbers_of_objects-objects_of : (n : ℕ) (taken ns : List ℤ) → are_objects n taken ns ≡ true → numbers_of_objects (objects_of ns) ≡ ns
+numbers_of_objects-objects_of n taken [] e = refl
+numbers_of_objects-objects_of n taken (pos zero ∷ ns) e = absurd (false≢true e)
+numbers_of_objects-objects_of n taken (pos (suc a) ∷ ns) e =
     let parts = and_parts (int_le (pos 1) (pos (suc a)) && int_le (pos (suc a)) (pos n)) _ e in
     let rest = cond-true_is (list_any (λ y. nat_abs y == suc a) taken) (are_objects n (pos (suc a) ∷ taken) ns) parts.1 in
     let same : (suc a - 1) + 1 ≡ suc a = omega arith in
-    ap (λ (x : ℕ). pos x ∷ numbers_of_order (objects_of ns)) same ∙ ap (λ (l : List ℤ). pos (suc a) ∷ l) (numbers_of_order-objects_of n (pos (suc a) ∷ taken) ns rest.1)
-numbers_of_order-objects_of n taken (negsuc a ∷ ns) e = absurd (false≢true e)
+    ap (λ (x : ℕ). pos x ∷ numbers_of_objects (objects_of ns)) same ∙ ap (λ (l : List ℤ). pos (suc a) ∷ l) (numbers_of_objects-objects_of n (pos (suc a) ∷ taken) ns rest.1)
+numbers_of_objects-objects_of n taken (negsuc a ∷ ns) e = absurd (false≢true e)
 
 record IsFirstObject (n : ℕ) (taken : List ℤ) (a : ℕ) (s : List ℕ) : Type 0 where
   within : a < n
   free : list_any (λ y. nat_abs y == a + 1) taken ≡ false
-  others : are_objects n (pos (a + 1) ∷ taken) (numbers_of_order s) ≡ true
+  others : are_objects n (pos (a + 1) ∷ taken) (numbers_of_objects s) ≡ true
 
-first_object : (n : ℕ) (taken : List ℤ) (a : ℕ) (s : List ℕ) → are_objects n taken (numbers_of_order (a ∷ s)) ≡ true → IsFirstObject n taken a s
+first_object : (n : ℕ) (taken : List ℤ) (a : ℕ) (s : List ℕ) → are_objects n taken (numbers_of_objects (a ∷ s)) ≡ true → IsFirstObject n taken a s
 first_object n taken a s e =
     let parts = and_parts (int_le (pos 1) (pos (a + 1)) && int_le (pos (a + 1)) (pos n)) _ e in
     let range = and_parts (int_le (pos 1) (pos (a + 1))) (int_le (pos (a + 1)) (pos n)) parts.0 in
     let high : a + 1 ≤ n = leb-true (a + 1) n range.1 in
-    let rest = cond-true_is (list_any (λ y. nat_abs y == a + 1) taken) (are_objects n (pos (a + 1) ∷ taken) (numbers_of_order s)) parts.1 in
+    let rest = cond-true_is (list_any (λ y. nat_abs y == a + 1) taken) (are_objects n (pos (a + 1) ∷ taken) (numbers_of_objects s)) parts.1 in
     record { within = omega arith; free = rest.0; others = rest.1 }
 
-objects-below : (n : ℕ) (taken : List ℤ) (s : List ℕ) → are_objects n taken (numbers_of_order s) ≡ true → (p : ℕ) → p < length s → get_or s p 0 < n
+objects-below : (n : ℕ) (taken : List ℤ) (s : List ℕ) → are_objects n taken (numbers_of_objects s) ≡ true → (p : ℕ) → p < length s → get_or s p 0 < n
 objects-below n taken [] e p h = absurd (omega arith)
 objects-below n taken (a ∷ s) e zero h = (first_object n taken a s e).within
 objects-below n taken (a ∷ s) e (suc p) h = objects-below n (pos (a + 1) ∷ taken) s (first_object n taken a s e).others p (omega arith)
 
-objects-free : (n : ℕ) (taken : List ℤ) (s : List ℕ) → are_objects n taken (numbers_of_order s) ≡ true → (p : ℕ) → p < length s → list_any (λ y. nat_abs y == get_or s p 0 + 1) taken ≡ false
+objects-free : (n : ℕ) (taken : List ℤ) (s : List ℕ) → are_objects n taken (numbers_of_objects s) ≡ true → (p : ℕ) → p < length s → list_any (λ y. nat_abs y == get_or s p 0 + 1) taken ≡ false
 objects-free n taken [] e p h = absurd (omega arith)
 objects-free n taken (a ∷ s) e zero h = (first_object n taken a s e).free
 objects-free n taken (a ∷ s) e (suc p) h =
     (or_parts (a + 1 == get_or s p 0 + 1) (list_any (λ y. nat_abs y == get_or s p 0 + 1) taken) (objects-free n (pos (a + 1) ∷ taken) s (first_object n taken a s e).others p (omega arith))).1
 
-objects-distinct : (n : ℕ) (taken : List ℤ) (s : List ℕ) → are_objects n taken (numbers_of_order s) ≡ true → (p q : ℕ) → p < q → q < length s → get_or s p 0 ≢ get_or s q 0
+objects-distinct : (n : ℕ) (taken : List ℤ) (s : List ℕ) → are_objects n taken (numbers_of_objects s) ≡ true → (p q : ℕ) → p < q → q < length s → get_or s p 0 ≢ get_or s q 0
 objects-distinct n taken [] e p q h k = absurd (omega arith)
 objects-distinct n taken (a ∷ s) e p zero h k = absurd (omega arith)
 objects-distinct n taken (a ∷ s) e zero (suc q) h k = λ same.
@@ -194,12 +222,12 @@ objects-distinct n taken (a ∷ s) e zero (suc q) h k = λ same.
     eqb-false (a + 1) (get_or s q 0 + 1) other (omega arith)
 objects-distinct n taken (a ∷ s) e (suc p) (suc q) h k = objects-distinct n (pos (a + 1) ∷ taken) s (first_object n taken a s e).others p q (omega arith) (omega arith)
 
-IsOrder-is_order : (n : ℕ) (ns : List ℤ) → is_order n ns ≡ true → IsOrder n (objects_of ns) × (numbers_of_order (objects_of ns) ≡ ns)
+IsOrder-is_order : (n : ℕ) (ns : List ℤ) → is_order n ns ≡ true → IsOrder n (objects_of ns) × (numbers_of_objects (objects_of ns) ≡ ns)
 IsOrder-is_order n ns e =
     let s = objects_of ns in
     let parts = and_parts (length ns == n) (are_objects n [] ns) e in
-    let same = numbers_of_order-objects_of n [] ns parts.1 in
-    let each : are_objects n [] (numbers_of_order s) ≡ true = ap (are_objects n []) same ∙ parts.1 in
+    let same = numbers_of_objects-objects_of n [] ns parts.1 in
+    let each : are_objects n [] (numbers_of_objects s) ≡ true = ap (are_objects n []) same ∙ parts.1 in
     let long : length s ≡ n = length-map ns (λ m. nat_abs m - 1) ∙ eqb-true (length ns) n parts.0 in
     (record { complete = long; below = λ p h. objects-below n [] s each p (omega arith); distinct = λ p q h k. objects-distinct n [] s each p q h (omega arith) }, same)
 
@@ -214,39 +242,48 @@ record Expected (is_due : CertWord → Bool) (lines : List TextLine) (next : Lis
   due : is_due line.word ≡ true
   follows : next line.numbers rest ≡ answer
 
+-- a line that was there, spelled right
+record Spelled (lines : List TextLine) (next : CertLine → List TextLine → CheckAnswer) (answer : CheckAnswer) : Type 0 where
+  line : CertLine
+  rest : List TextLine
+  lines_are : lines ≡ ended line ∷ rest
+  row : is_row line.word line.numbers ≡ true
+  follows : next line rest ≡ answer
+
 module _ (v b : ℤ) where
-  expected : (is_due : CertWord → Bool) (number : ℕ) (lines : List TextLine) (next : List ℤ → List TextLine → CheckAnswer) → expect is_due number lines next ≡ accepted v b → Expected is_due lines next (accepted v b)
-  expected is_due number [] next e = absurd (cc)
-  expected is_due number (long_file ∷ lines) next e = absurd (cc)
-  expected is_due number (long_line ∷ lines) next e = absurd (cc)
-  expected is_due number (unended_line bytes ∷ lines) next e = absurd (cc)
-  expected is_due number (ended_line bytes ∷ lines) next e = by (line_reading bytes) refl e
+  spelled_there : (number : ℕ) (lines : List TextLine) (next : CertLine → List TextLine → CheckAnswer) → spelled number lines next ≡ accepted v b → Spelled lines next (accepted v b)
+  spelled_there number [] next e = absurd (cc)
+  spelled_there number (long_file ∷ lines) next e = absurd (cc)
+  spelled_there number (long_line ∷ lines) next e = absurd (cc)
+  spelled_there number (unended_line bytes ∷ lines) next e = absurd (cc)
+  spelled_there number (ended_line bytes ∷ lines) next e = by (line_reading bytes) refl e
     where
-      read : (l : CertLine) (t : Bool) → line_reading bytes ≡ Some l → is_due l.word ≡ t → cond t (next l.numbers lines) (rejected number reason.Spelling) ≡ accepted v b → Expected is_due (ended_line bytes ∷ lines) next (accepted v b)
-      read l false is due e = absurd (cc)
-      read l true is due e = record {
+      by : (o : Option CertLine) → line_reading bytes ≡ o → with_line number o (λ l. next l lines) ≡ accepted v b → Spelled (ended_line bytes ∷ lines) next (accepted v b)
+      by None is e = absurd (cc)
+      by (Some l) is e = record {
         line = l;
         rest = lines;
         lines_are = ap (λ (x : List ℕ). ended_line x ∷ lines) (line_text-line_reading bytes l is);
         row = row-pieces_reading (pieces bytes) l is;
-        due = due;
         follows = e;
       }
-
-      by : (o : Option CertLine) → line_reading bytes ≡ o → with_line is_due number o (λ numbers. next numbers lines) ≡ accepted v b → Expected is_due (ended_line bytes ∷ lines) next (accepted v b)
-      by None is e = absurd (cc)
-      by (Some l) is e = read l (is_due l.word) is refl e
 
   passed : (t : Bool) (answer : CheckAnswer) (number : ℕ) (why : Reason) → cond t answer (rejected number why) ≡ accepted v b → (t ≡ true) × (answer ≡ accepted v b)
   passed false answer number why e = absurd (cc)
   passed true answer number why e = (refl, e)
 
-  nothing_behind : (value bound : ℤ) (lines : List TextLine) → tail_step value bound lines ≡ accepted v b → (lines ≡ []) × (value ≡ v) × (bound ≡ b)
-  nothing_behind value bound [] e = (refl, cc, cc)
-  nothing_behind value bound (long_file ∷ lines) e = absurd (cc)
-  nothing_behind value bound (long_line ∷ lines) e = absurd (cc)
-  nothing_behind value bound (ended_line bytes ∷ lines) e = absurd (cc)
-  nothing_behind value bound (unended_line bytes ∷ lines) e = absurd (cc)
+  expected : (is_due : CertWord → Bool) (number : ℕ) (lines : List TextLine) (next : List ℤ → List TextLine → CheckAnswer) → expect is_due number lines next ≡ accepted v b → Expected is_due lines next (accepted v b)
+  expected is_due number lines next e =
+      let x = spelled_there number lines (λ line rest. cond (is_due line.word) (next line.numbers rest) (rejected number reason.Spelling)) e in
+      let t = passed (is_due x.line.word) (next x.line.numbers x.rest) number reason.Spelling x.follows in
+      record { line = x.line; rest = x.rest; lines_are = x.lines_are; row = x.row; due = t.0; follows = t.1 }
+
+  nothing_behind : (value bound : ℤ) (number : ℕ) (lines : List TextLine) → tail_step value bound number lines ≡ accepted v b → (lines ≡ []) × (value ≡ v) × (bound ≡ b)
+  nothing_behind value bound number [] e = (refl, cc, cc)
+  nothing_behind value bound number (long_file ∷ lines) e = absurd (cc)
+  nothing_behind value bound number (long_line ∷ lines) e = absurd (cc)
+  nothing_behind value bound number (ended_line bytes ∷ lines) e = absurd (cc)
+  nothing_behind value bound number (unended_line bytes ∷ lines) e = absurd (cc)
 
 line_is : (l : CertLine) (w : CertWord) (ns : List ℤ) → l.word ≡ w → l.numbers ≡ ns → l ≡ record { word = w; numbers = ns }
 line_is l w ns word numbers = ap (λ (x : CertWord). record { word = x; numbers = l.numbers }) word ∙ ap (λ (xs : List ℤ). record { word = w; numbers = xs }) numbers
@@ -257,18 +294,6 @@ int_le-both y z e = let parts = and_parts (int_le y z) (int_le z y) e in grind (
 int_lt-less : (y z : ℤ) → int_lt y z ≡ true → y <ℤ z
 int_lt-less y z e = grind (arith, ints)
 
-count_is : (z : ℤ) (n : ℕ) → is_count z ≡ true → nat_abs z ≡ n → z ≡ pos n
-count_is (pos m) n e same = ap pos same
-count_is (negsuc m) n e same = absurd (false≢true e)
-
--- what an accepted text is: a certificate that is true, with this value and bound
-pub record IsAccepted (C : Matrix) (bytes : List ℕ) (v b : ℤ) : Type 0 where
-  pub certificate : Certificate
-  pub holds : IsTreeCertificate C certificate
-  pub text : bytes ≡ certificate_text certificate
-  pub value : certificate.value ≡ v
-  pub bound : certificate.bound ≡ b
-
 -- a line that was there, and what stands behind it
 line_then : (lines rest others : List TextLine) (line l : CertLine) → lines ≡ ended line ∷ rest → line ≡ l → rest ≡ others → lines ≡ ended l ∷ others
 line_then lines rest others line l first is behind = first ∙ ap (λ (x : CertLine). ended x ∷ rest) is ∙ ap (λ (xs : List TextLine). ended l ∷ xs) behind
@@ -276,138 +301,338 @@ line_then lines rest others line l first is behind = first ∙ ap (λ (x : CertL
 row_at : (ns : List ℤ) (w u : CertWord) → w ≡ u → is_row w ns ≡ true → is_row u ns ≡ true
 row_at ns w u is row = subst (λ (x : CertWord). is_row x ns ≡ true) is row
 
-module _ (C : Matrix) (v b : ℤ) where
-  abbrev cert : List ℕ → Certificate
-  cert s = record { order = s; value = v; bound = b }
+-- lines from some line on
+front_then : (lines rest : List TextLine) (line l : CertLine) → lines ≡ ended line ∷ rest → line ≡ l → lines ≡ ended l ∷ rest
+front_then lines rest line l first is = first ∙ ap (λ (x : CertLine). ended x ∷ rest) is
 
-  end_read : (value bound : ℤ) (lines : List TextLine) → Expected is_end lines (λ _ rest. tail_step value bound rest) (accepted v b) → (lines ≡ map ended (end_line ∷ [])) × (value ≡ v) × (bound ≡ b)
-  end_read value bound lines x =
-      let last = nothing_behind v b value bound x.rest x.follows in
+module _ (v b : ℤ) where
+  end_read : (value bound : ℤ) (number : ℕ) (lines : List TextLine) → end_step value bound number lines ≡ accepted v b → (lines ≡ map ended (end_line ∷ [])) × (value ≡ v) × (bound ≡ b)
+  end_read value bound number lines e =
+      let x = expected v b is_end number lines (λ _ rest. tail_step value bound (number + 1) rest) e in
+      let last = nothing_behind v b value bound (number + 1) x.rest x.follows in
       let word = due-end x.line.word x.due in
       (line_then lines x.rest [] x.line end_line x.lines_are (line_is x.line End [] word (row-end x.line.numbers (row_at x.line.numbers x.line.word End word x.row))) last.0, last.1, last.2)
 
-  leaf_read : (value bound : ℤ) (lines : List TextLine) → Expected is_leaf lines (λ _ rest. cond (int_lt (pair_bound C []) (bound +ℤ pos 1)) (end_step value bound rest) (rejected 7 (reason.High (pair_bound C []) (bound +ℤ pos 1)))) (accepted v b) → (lines ≡ map ended (leaf_line ∷ end_line ∷ [])) × (pair_bound C [] <ℤ (bound +ℤ pos 1)) × (value ≡ v) × (bound ≡ b)
-  leaf_read value bound lines x = by (passed v b (int_lt (pair_bound C []) (bound +ℤ pos 1)) (end_step value bound x.rest) 7 (reason.High (pair_bound C []) (bound +ℤ pos 1)) x.follows)
-    where
-      by : (int_lt (pair_bound C []) (bound +ℤ pos 1) ≡ true) × (end_step value bound x.rest ≡ accepted v b) → (lines ≡ map ended (leaf_line ∷ end_line ∷ [])) × (pair_bound C [] <ℤ (bound +ℤ pos 1)) × (value ≡ v) × (bound ≡ b)
-      by t =
-          let last = end_read value bound x.rest (expected v b is_end 8 x.rest (λ _ rest. tail_step value bound rest) t.1) in
-          let word = due-leaf x.line.word x.due in
-          let line = line_is x.line Leaf (pos 1 ∷ pos 0 ∷ []) word (row-leaf x.line.numbers (row_at x.line.numbers x.line.word Leaf word x.row)) in
-          (line_then lines x.rest (map ended (end_line ∷ [])) x.line leaf_line x.lines_are line last.0, int_lt-less (pair_bound C []) (bound +ℤ pos 1) t.0, last.1, last.2)
+module _ (C : Matrix) (cuts : List CutKind) (value bound v b : ℤ) where
+  -- the lines are those of true trees for the pending paths, one after another, and the end
+  abbrev Forest : List (List Pair) → List TextLine → Type 0
+  Forest [] lines = (lines ≡ map ended (end_line ∷ [])) × (value ≡ v) × (bound ≡ b)
+  Forest (path ∷ pending) lines = (tree : Tree) × (rest : List TextLine) × IsTree C cuts bound path tree × (lines ≡ map ended (tree_lines tree) ++ rest) × Forest pending rest
 
-  cuts_read : (value bound : ℤ) (lines : List TextLine) → Expected is_cuts lines (λ _ rest. leaf_step C value bound rest) (accepted v b) → (lines ≡ map ended (cuts_line ∷ leaf_line ∷ end_line ∷ [])) × (pair_bound C [] <ℤ (bound +ℤ pos 1)) × (value ≡ v) × (bound ≡ b)
-  cuts_read value bound lines x =
-      let last = leaf_read value bound x.rest (expected v b is_leaf 7 x.rest (λ _ rest. cond (int_lt (pair_bound C []) (bound +ℤ pos 1)) (end_step value bound rest) (rejected 7 (reason.High (pair_bound C []) (bound +ℤ pos 1)))) x.follows) in
-      let word = due-cuts x.line.word x.due in
-      let line = line_is x.line Cuts (pos 0 ∷ []) word (row-cuts x.line.numbers (row_at x.line.numbers x.line.word Cuts word x.row)) in
-      (line_then lines x.rest (map ended (leaf_line ∷ end_line ∷ [])) x.line cuts_line x.lines_are line last.0, last.1, last.2, last.3)
+  module _ (path : List Pair) (pending : List (List Pair)) (number : ℕ) (bytes : List ℕ) (lines : List TextLine) (later : (left : List (List Pair)) → tree_step C cuts value bound left (number + 1) lines ≡ accepted v b → Forest left lines) where
+    abbrev next : List (List Pair) → CheckAnswer
+    next left = tree_step C cuts value bound left (number + 1) lines
 
-  bound_read : (value : ℤ) (s : List ℕ) (lines : List TextLine) → Expected is_bound lines (λ numbers rest. cuts_step C value (only_number numbers) rest) (accepted v b) → (lines ≡ map ended (bound_line (cert s) ∷ cuts_line ∷ leaf_line ∷ end_line ∷ [])) × (is_signed b ≡ true) × (pair_bound C [] <ℤ (b +ℤ pos 1)) × (value ≡ v)
-  bound_read value s lines x = by (cuts_read value (only_number x.line.numbers) x.rest (expected v b is_cuts 6 x.rest (λ _ rest. leaf_step C value (only_number x.line.numbers) rest) x.follows))
+    first_line : (w : CertWord) (ns : List ℤ) (l : CertLine) → line_reading bytes ≡ Some (record { word = w; numbers = ns }) → l ≡ record { word = w; numbers = ns } → ended_line bytes ∷ lines ≡ ended l ∷ lines
+    first_line w ns l is same =
+        ap (λ (x : List ℕ). ended_line x ∷ lines) (line_text-line_reading bytes (record { word = w; numbers = ns }) is ∙ ap line_text (sym same))
+
+    split_read : (ns : List ℤ) (o : Option Pair) → line_reading bytes ≡ Some (record { word = SplitLine; numbers = ns }) → split_of C.size path ns ≡ o → split_step path pending number o next ≡ accepted v b → Forest (path ∷ pending) (ended_line bytes ∷ lines)
+    split_read ns None is made e = absurd (cc)
+    split_read ns (Some p) is made e =
+        let t = line-split_of C.size path ns p made in
+        let f = later ((path ++ p ∷ []) ∷ (path ++ reversed p ∷ []) ∷ pending) e in
+        let g = f.4 in
+        let both : map ended (tree_lines f.0) ++ (map ended (tree_lines g.0) ++ g.1) ≡ map ended (tree_lines f.0 ++ tree_lines g.0) ++ g.1 =
+        sym (append_assoc (map ended (tree_lines f.0)) (map ended (tree_lines g.0)) g.1) ∙ ap (λ (l : List TextLine). l ++ g.1) (sym (map-append ended (tree_lines f.0) (tree_lines g.0))) in (
+          split p f.0 g.0,
+          g.1,
+          (t.undecided, f.2, g.2),
+          first_line SplitLine ns (split_line p) is t.line
+              ∙ ap (λ (l : List TextLine). ended (split_line p) ∷ l) (f.3 ∙ ap (λ (l : List TextLine). map ended (tree_lines f.0) ++ l) g.3 ∙ both),
+          g.4,
+        )
+
+    leaf_read : (ns : List ℤ) (o : Option LeafTerms) → line_reading bytes ≡ Some (record { word = Leaf; numbers = ns }) → leaf_of (length cuts) ns ≡ o → leaf_step C cuts bound path pending number o next ≡ accepted v b → Forest (path ∷ pending) (ended_line bytes ∷ lines)
+    leaf_read ns None is made e = absurd (cc)
+    leaf_read ns (Some l) is made e =
+        let t = line-leaf_of (length cuts) ns l (row-pieces_reading (pieces bytes) (record { word = Leaf; numbers = ns }) is) made in
+        let p = passed v b (int_lt (leaf_value C cuts path l) (leaf_limit l bound)) (next pending) number (reason.High (leaf_value C cuts path l) (leaf_limit l bound)) e in (
+          leaf l,
+          lines,
+          record {
+            positive = t.positive;
+            within_limit = t.within_limit;
+            few = t.few;
+            rising = t.rising;
+            multipliers = t.multipliers;
+            certified = int_lt-less (leaf_value C cuts path l) (leaf_limit l bound) p.0;
+          },
+          first_line Leaf ns (leaf_line l) is t.line,
+          later pending p.1,
+        )
+
+    node_read : (w : CertWord) (ns : List ℤ) → line_reading bytes ≡ Some (record { word = w; numbers = ns }) → node_step C cuts bound path pending number w ns next ≡ accepted v b → Forest (path ∷ pending) (ended_line bytes ∷ lines)
+    node_read SplitLine ns is e = split_read ns (split_of C.size path ns) is refl e
+    node_read Leaf ns is e = leaf_read ns (leaf_of (length cuts) ns) is refl e
+    node_read w ns is e = absurd (cc)
+
+    line_read : (o : Option CertLine) → line_reading bytes ≡ o → with_line number o (λ l. node_step C cuts bound path pending number l.word l.numbers next) ≡ accepted v b → Forest (path ∷ pending) (ended_line bytes ∷ lines)
+    line_read None is e = absurd (cc)
+    line_read (Some l) is e = node_read l.word l.numbers is e
+
+  trees_read : (pending : List (List Pair)) (number : ℕ) (lines : List TextLine) → tree_step C cuts value bound pending number lines ≡ accepted v b → Forest pending lines
+  trees_read [] number lines e = end_read v b value bound number lines e
+  trees_read (path ∷ pending) number [] e = absurd (cc)
+  trees_read (path ∷ pending) number (long_file ∷ lines) e = absurd (cc)
+  trees_read (path ∷ pending) number (long_line ∷ lines) e = absurd (cc)
+  trees_read (path ∷ pending) number (unended_line bytes ∷ lines) e = absurd (cc)
+  trees_read (path ∷ pending) number (ended_line bytes ∷ lines) e =
+      line_read path pending number bytes lines (λ left. trees_read left (number + 1) lines) (line_reading bytes) refl e
+
+-- the cuts of so many lines, and the tree behind them
+record CutsRead (C : Matrix) (value bound v b : ℤ) (k : ℕ) (cuts : List CutKind) (lines : List TextLine) : Type 0 where
+  more : List CutKind
+  rest : List TextLine
+  many : length more ≡ k
+  right : All IsCut more
+  fit : All (FitsCut C.size) more
+  shaped : All IsShapedCut more
+  lines_are : lines ≡ map ended (map cut_line more) ++ rest
+  forest : Forest C (cuts ++ more) value bound v b ([] ∷ []) rest
+
+module _ (C : Matrix) (value bound v b : ℤ) where
+  cut_read : (k : ℕ) (cuts : List CutKind) (number : ℕ) (lines : List TextLine) (x : Spelled lines (λ line rest. cut_step C.size number line.word line.numbers (λ cut. cuts_left_step C value bound k (cuts ++ cut ∷ []) (number + 1) rest)) (accepted v b))
+      → ((cut : CutKind) → cuts_left_step C value bound k (cuts ++ cut ∷ []) (number + 1) x.rest ≡ accepted v b → CutsRead C value bound v b k (cuts ++ cut ∷ []) x.rest) → CutsRead C value bound v b (suc k) cuts lines
+  cut_read k cuts number lines x later =
+      let next : CutKind → CheckAnswer = λ cut. cuts_left_step C value bound k (cuts ++ cut ∷ []) (number + 1) x.rest in
+      let p = passed v b (is_cut_word x.line.word) (with_cut number (cut_of C.size x.line.word x.line.numbers) next) number reason.Spelling x.follows in
+      by (cut_of C.size x.line.word x.line.numbers) refl p.1
     where
-      by : (x.rest ≡ map ended (cuts_line ∷ leaf_line ∷ end_line ∷ [])) × (pair_bound C [] <ℤ (only_number x.line.numbers +ℤ pos 1)) × (value ≡ v) × (only_number x.line.numbers ≡ b) → (lines ≡ map ended (bound_line (cert s) ∷ cuts_line ∷ leaf_line ∷ end_line ∷ [])) × (is_signed b ≡ true) × (pair_bound C [] <ℤ (b +ℤ pos 1)) × (value ≡ v)
-      by last =
+      by : (o : Option CutKind) → cut_of C.size x.line.word x.line.numbers ≡ o → with_cut number o (λ cut. cuts_left_step C value bound k (cuts ++ cut ∷ []) (number + 1) x.rest) ≡ accepted v b → CutsRead C value bound v b (suc k) cuts lines
+      by None is e = absurd (cc)
+      by (Some cut) is e =
+          let t = line-cut_of C.size x.line.word x.line.numbers cut x.row is in
+          let r = later cut e in
+          record {
+            more = cut ∷ r.more;
+            rest = r.rest;
+            many = ap suc r.many;
+            right = All-cons IsCut cut r.more t.right r.right;
+            fit = All-cons (FitsCut C.size) cut r.more t.fits r.fit;
+            shaped = All-cons IsShapedCut cut r.more t.shaped r.shaped;
+            lines_are = front_then lines x.rest x.line (cut_line cut) x.lines_are (sym t.line) ∙ ap (λ (l : List TextLine). ended (cut_line cut) ∷ l) r.lines_are;
+            forest = subst (λ (l : List CutKind). Forest C l value bound v b ([] ∷ []) r.rest) (append_assoc cuts (cut ∷ []) r.more) r.forest;
+          }
+
+  cuts_left_read : (k : ℕ) (cuts : List CutKind) (number : ℕ) (lines : List TextLine) → cuts_left_step C value bound k cuts number lines ≡ accepted v b → CutsRead C value bound v b k cuts lines
+  cuts_left_read zero cuts number lines e = record {
+    more = [];
+    rest = lines;
+    many = refl;
+    right = All-nil IsCut;
+    fit = All-nil (FitsCut C.size);
+    shaped = All-nil IsShapedCut;
+    lines_are = refl;
+    forest = subst (λ (l : List CutKind). Forest C l value bound v b ([] ∷ []) lines) (sym (append-nil cuts)) (trees_read C cuts value bound v b ([] ∷ []) number lines e);
+  }
+  cuts_left_read (suc k) cuts number lines e =
+      let x = spelled_there v b number lines (λ line rest. cut_step C.size number line.word line.numbers (λ cut. cuts_left_step C value bound k (cuts ++ cut ∷ []) (number + 1) rest)) e in
+      cut_read k cuts number lines x (λ cut. cuts_left_read k (cuts ++ cut ∷ []) (number + 1) x.rest)
+
+module _ (C : Matrix) (v b : ℤ) where
+  -- the lines from the number of cuts on
+  record FromCuts (value bound : ℤ) (lines : List TextLine) : Type 0 where
+    cuts : List CutKind
+    tree : Tree
+    few : length cuts ≤ most_cuts
+    right : All IsCut cuts
+    fit : All (FitsCut C.size) cuts
+    shaped : All IsShapedCut cuts
+    tree_is : IsTree C cuts bound [] tree
+    lines_are : lines ≡ map ended (record { word = Cuts; numbers = pos (length cuts) ∷ [] } ∷ map cut_line cuts ++ (tree_lines tree ++ end_line ∷ []))
+    value_is : value ≡ v
+    bound_is : bound ≡ b
+
+  cuts_read : (value bound : ℤ) (lines : List TextLine) → cuts_step C value bound lines ≡ accepted v b → FromCuts value bound lines
+  cuts_read value bound lines e =
+      let x = expected v b is_cuts 6 lines (λ numbers rest. cuts_left_step C value bound (nat_abs (only_number numbers)) [] 7 rest) e in
+      with_rest x (cuts_left_read C value bound v b (nat_abs (only_number x.line.numbers)) [] 7 x.rest x.follows)
+    where
+      with_rest : (x : Expected is_cuts lines (λ numbers rest. cuts_left_step C value bound (nat_abs (only_number numbers)) [] 7 rest) (accepted v b)) → CutsRead C value bound v b (nat_abs (only_number x.line.numbers)) [] x.rest → FromCuts value bound lines
+      with_rest x r =
+          let f = r.forest in
+          let word = due-cuts x.line.word x.due in
+          let row = row-cuts x.line.numbers (row_at x.line.numbers x.line.word Cuts word x.row) in
+          let cuts = r.more in
+          let count : pos (length cuts) ≡ only_number x.line.numbers = ap pos r.many ∙ row.1 in
+          let line = line_is x.line Cuts (pos (length cuts) ∷ []) word (row.0 ∙ ap (λ (n : ℤ). n ∷ []) (sym count)) in
+          let tree_end : map ended (tree_lines f.0) ++ map ended (end_line ∷ []) ≡ map ended (tree_lines f.0 ++ end_line ∷ []) = sym (map-append ended (tree_lines f.0) (end_line ∷ [])) in
+          let behind : x.rest ≡ map ended (map cut_line cuts ++ (tree_lines f.0 ++ end_line ∷ [])) =
+          r.lines_are
+          ∙ ap (λ (l : List TextLine). map ended (map cut_line cuts) ++ l) (f.3 ∙ ap (λ (l : List TextLine). map ended (tree_lines f.0) ++ l) f.4.0 ∙ tree_end)
+          ∙ sym (map-append ended (map cut_line cuts) (tree_lines f.0 ++ end_line ∷ [])) in
+          record {
+            cuts = cuts;
+            tree = f.0;
+            few = omega (arith, r.many, row.2);
+            right = r.right;
+            fit = r.fit;
+            shaped = r.shaped;
+            tree_is = f.2;
+            lines_are = line_then lines x.rest (map ended (map cut_line cuts ++ (tree_lines f.0 ++ end_line ∷ []))) x.line (record { word = Cuts; numbers = pos (length cuts) ∷ [] }) x.lines_are line behind;
+            value_is = f.4.1;
+            bound_is = f.4.2;
+          }
+
+  -- the lines from the bound on
+  record FromBound (value : ℤ) (lines : List TextLine) : Type 0 where
+    cuts : List CutKind
+    tree : Tree
+    few : length cuts ≤ most_cuts
+    right : All IsCut cuts
+    fit : All (FitsCut C.size) cuts
+    shaped : All IsShapedCut cuts
+    tree_is : IsTree C cuts b [] tree
+    lines_are : lines ≡ map ended (record { word = Bound; numbers = b ∷ [] } ∷ record { word = Cuts; numbers = pos (length cuts) ∷ [] } ∷ map cut_line cuts ++ (tree_lines tree ++ end_line ∷ []))
+    value_is : value ≡ v
+    bound_signed : is_signed b ≡ true
+
+  bound_read : (value : ℤ) (lines : List TextLine) → bound_step C value lines ≡ accepted v b → FromBound value lines
+  bound_read value lines e =
+      let x = expected v b is_bound 5 lines (λ numbers rest. cuts_step C value (only_number numbers) rest) e in
+      with_rest x (cuts_read value (only_number x.line.numbers) x.rest x.follows)
+    where
+      with_rest : (x : Expected is_bound lines (λ numbers rest. cuts_step C value (only_number numbers) rest) (accepted v b)) → FromCuts value (only_number x.line.numbers) x.rest → FromBound value lines
+      with_rest x last =
           let word = due-bound x.line.word x.due in
           let row = row-bound x.line.numbers (row_at x.line.numbers x.line.word Bound word x.row) in
-          let line = line_is x.line Bound (b ∷ []) word (row.0 ∙ ap (λ (n : ℤ). n ∷ []) last.3) in (
-            line_then lines x.rest (map ended (cuts_line ∷ leaf_line ∷ end_line ∷ [])) x.line (bound_line (cert s)) x.lines_are line last.0,
-            subst (λ (n : ℤ). is_signed n ≡ true) last.3 row.1,
-            subst (λ (n : ℤ). pair_bound C [] <ℤ (n +ℤ pos 1)) last.3 last.1,
-            last.2,
-          )
+          let line = line_is x.line Bound (b ∷ []) word (row.0 ∙ ap (λ (n : ℤ). n ∷ []) last.bound_is) in
+          record {
+            cuts = last.cuts;
+            tree = last.tree;
+            few = last.few;
+            right = last.right;
+            fit = last.fit;
+            shaped = last.shaped;
+            tree_is = subst (λ (n : ℤ). IsTree C last.cuts n [] last.tree) last.bound_is last.tree_is;
+            lines_are = line_then lines x.rest (map ended (record { word = Cuts; numbers = pos (length last.cuts) ∷ [] } ∷ map cut_line last.cuts ++ (tree_lines last.tree ++ end_line ∷ []))) x.line (record { word = Bound; numbers = b ∷ [] }) x.lines_are line last.lines_are;
+            value_is = last.value_is;
+            bound_signed = subst (λ (n : ℤ). is_signed n ≡ true) last.bound_is row.1;
+          }
 
-  -- the lines from the value on, for an order s
+  -- the lines from the value on
   record FromValue (s : List ℕ) (lines : List TextLine) : Type 0 where
-    lines_are : lines ≡ map ended (value_line (cert s) ∷ bound_line (cert s) ∷ cuts_line ∷ leaf_line ∷ end_line ∷ [])
+    cuts : List CutKind
+    tree : Tree
+    few : length cuts ≤ most_cuts
+    right : All IsCut cuts
+    fit : All (FitsCut C.size) cuts
+    shaped : All IsShapedCut cuts
+    tree_is : IsTree C cuts b [] tree
+    lines_are : lines ≡ map ended (record { word = Value; numbers = v ∷ [] } ∷ record { word = Bound; numbers = b ∷ [] } ∷ record { word = Cuts; numbers = pos (length cuts) ∷ [] } ∷ map cut_line cuts ++ (tree_lines tree ++ end_line ∷ []))
     value_is : v ≡ weight C s
     value_signed : is_signed v ≡ true
     bound_signed : is_signed b ≡ true
-    certified : pair_bound C [] <ℤ (b +ℤ pos 1)
 
-  value_read : (s : List ℕ) (lines : List TextLine) → Expected is_value lines (λ numbers rest. cond (int_le (only_number numbers) (weight C s) && int_le (weight C s) (only_number numbers)) (bound_step C (only_number numbers) rest) (rejected 4 (reason.Value (only_number numbers) (weight C s)))) (accepted v b) → FromValue s lines
-  value_read s lines x = by (only_number x.line.numbers) refl (passed v b (int_le (only_number x.line.numbers) (weight C s) && int_le (weight C s) (only_number x.line.numbers)) (bound_step C (only_number x.line.numbers) x.rest) 4 (reason.Value (only_number x.line.numbers) (weight C s)) x.follows)
+  value_read : (s : List ℕ) (lines : List TextLine) → value_step C s lines ≡ accepted v b → FromValue s lines
+  value_read s lines e =
+      let x = expected v b is_value 4 lines (λ numbers rest. cond (int_le (only_number numbers) (weight C s) && int_le (weight C s) (only_number numbers)) (bound_step C (only_number numbers) rest) (rejected 4 (reason.Value (only_number numbers) (weight C s)))) e in
+      let value = only_number x.line.numbers in
+      let t = passed v b (int_le value (weight C s) && int_le (weight C s) value) (bound_step C value x.rest) 4 (reason.Value value (weight C s)) x.follows in
+      with_rest x t.0 (bound_read value x.rest t.1)
     where
-      by : (value : ℤ) → only_number x.line.numbers ≡ value → ((int_le value (weight C s) && int_le (weight C s) value) ≡ true) × (bound_step C value x.rest ≡ accepted v b) → FromValue s lines
-      by value value_is t =
-          let last = bound_read value s x.rest (expected v b is_bound 5 x.rest (λ numbers rest. cuts_step C value (only_number numbers) rest) t.1) in
+      with_rest : (x : Expected is_value lines (λ numbers rest. cond (int_le (only_number numbers) (weight C s) && int_le (weight C s) (only_number numbers)) (bound_step C (only_number numbers) rest) (rejected 4 (reason.Value (only_number numbers) (weight C s)))) (accepted v b)) → (int_le (only_number x.line.numbers) (weight C s) && int_le (weight C s) (only_number x.line.numbers)) ≡ true → FromBound (only_number x.line.numbers) x.rest → FromValue s lines
+      with_rest x t last =
           let word = due-value x.line.word x.due in
           let row = row-value x.line.numbers (row_at x.line.numbers x.line.word Value word x.row) in
-          let line = line_is x.line Value (v ∷ []) word (row.0 ∙ ap (λ (n : ℤ). n ∷ []) (value_is ∙ last.3)) in
+          let line = line_is x.line Value (v ∷ []) word (row.0 ∙ ap (λ (n : ℤ). n ∷ []) last.value_is) in
           record {
-            lines_are = line_then lines x.rest (map ended (bound_line (cert s) ∷ cuts_line ∷ leaf_line ∷ end_line ∷ [])) x.line (value_line (cert s)) x.lines_are line last.0;
-            value_is = sym last.3 ∙ int_le-both value (weight C s) t.0;
-            value_signed = subst (λ (n : ℤ). is_signed n ≡ true) (value_is ∙ last.3) row.1;
-            bound_signed = last.1;
-            certified = last.2;
+            cuts = last.cuts;
+            tree = last.tree;
+            few = last.few;
+            right = last.right;
+            fit = last.fit;
+            shaped = last.shaped;
+            tree_is = last.tree_is;
+            lines_are = line_then lines x.rest (map ended (record { word = Bound; numbers = b ∷ [] } ∷ record { word = Cuts; numbers = pos (length last.cuts) ∷ [] } ∷ map cut_line last.cuts ++ (tree_lines last.tree ++ end_line ∷ []))) x.line (record { word = Value; numbers = v ∷ [] }) x.lines_are line last.lines_are;
+            value_is = sym last.value_is ∙ int_le-both (only_number x.line.numbers) (weight C s) t;
+            value_signed = subst (λ (n : ℤ). is_signed n ≡ true) last.value_is row.1;
+            bound_signed = last.bound_signed;
           }
 
   -- the lines from the order on
   record FromOrder (lines : List TextLine) : Type 0 where
-    order : List ℕ
-    lines_are : lines ≡ map ended (order_line (cert order) ∷ value_line (cert order) ∷ bound_line (cert order) ∷ cuts_line ∷ leaf_line ∷ end_line ∷ [])
-    holds : IsTreeCertificate C (cert order)
+    certificate : Certificate
+    holds : IsTreeCertificate C certificate
+    value_is : certificate.value ≡ v
+    bound_is : certificate.bound ≡ b
+    lines_are : lines ≡ map ended (order_line certificate ∷ value_line certificate ∷ bound_line certificate ∷ cuts_line certificate ∷ map cut_line certificate.cuts ++ (tree_lines certificate.tree ++ end_line ∷ []))
 
-  order_read : (lines : List TextLine) → Expected is_order_line lines (λ numbers rest. cond (is_order C.size numbers) (value_step C (objects_of numbers) rest) (rejected 3 reason.OrderLine)) (accepted v b) → FromOrder lines
-  order_read lines x = by (objects_of x.line.numbers) refl (passed v b (is_order C.size x.line.numbers) (value_step C (objects_of x.line.numbers) x.rest) 3 reason.OrderLine x.follows)
+  order_read : (lines : List TextLine) → order_step C lines ≡ accepted v b → FromOrder lines
+  order_read lines e =
+      let x = expected v b is_order_line 3 lines (λ numbers rest. cond (is_order C.size numbers) (value_step C (objects_of numbers) rest) (rejected 3 reason.OrderLine)) e in
+      let t = passed v b (is_order C.size x.line.numbers) (value_step C (objects_of x.line.numbers) x.rest) 3 reason.OrderLine x.follows in
+      with_rest x (IsOrder-is_order C.size x.line.numbers t.0) (value_read (objects_of x.line.numbers) x.rest t.1)
     where
-      with_rest : (s : List ℕ) → IsOrder C.size s → numbers_of_order s ≡ x.line.numbers → FromValue s x.rest → FromOrder lines
-      with_rest s order numbers last = record {
-        order = s;
-        lines_are = line_then lines x.rest (map ended (value_line (cert s) ∷ bound_line (cert s) ∷ cuts_line ∷ leaf_line ∷ end_line ∷ [])) x.line (order_line (cert s)) x.lines_are (line_is x.line OrderLine (numbers_of_order s) (due-order x.line.word x.due) (sym numbers)) last.lines_are;
-        holds = record {
-          order_is = order;
-          value_is = last.value_is;
-          value_fits = ltb-true (nat_abs v) (2 ^ 63) last.value_signed;
-          bound_fits = ltb-true (nat_abs b) (2 ^ 63) last.bound_signed;
-          certified = last.certified;
-        };
-      }
-
-      by : (s : List ℕ) → objects_of x.line.numbers ≡ s → (is_order C.size x.line.numbers ≡ true) × (value_step C s x.rest ≡ accepted v b) → FromOrder lines
-      by s s_is t =
-          let order = IsOrder-is_order C.size x.line.numbers t.0 in
-          with_rest s (subst (λ (l : List ℕ). IsOrder C.size l) s_is order.0) (subst (λ (l : List ℕ). numbers_of_order l ≡ x.line.numbers) s_is order.1)
-          (value_read s x.rest (expected v b is_value 4 x.rest (λ numbers rest. cond (int_le (only_number numbers) (weight C s) && int_le (weight C s) (only_number numbers)) (bound_step C (only_number numbers) rest) (rejected 4 (reason.Value (only_number numbers) (weight C s)))) t.1))
+      with_rest : (x : Expected is_order_line lines (λ numbers rest. cond (is_order C.size numbers) (value_step C (objects_of numbers) rest) (rejected 3 reason.OrderLine)) (accepted v b)) → IsOrder C.size (objects_of x.line.numbers) × (numbers_of_objects (objects_of x.line.numbers) ≡ x.line.numbers) → FromValue (objects_of x.line.numbers) x.rest → FromOrder lines
+      with_rest x order last =
+          let s = objects_of x.line.numbers in
+          let c : Certificate = record { order = s; value = v; bound = b; cuts = last.cuts; tree = last.tree } in
+          record {
+            certificate = c;
+            holds = record {
+              order_is = order.0;
+              value_is = last.value_is;
+              value_fits = ltb-true (nat_abs v) (2 ^ 63) last.value_signed;
+              bound_fits = ltb-true (nat_abs b) (2 ^ 63) last.bound_signed;
+              few_cuts = last.few;
+              cuts_are = last.right;
+              cuts_fit = last.fit;
+              cuts_shaped = last.shaped;
+              tree_is = last.tree_is;
+            };
+            value_is = refl;
+            bound_is = refl;
+            lines_are = line_then lines x.rest (map ended (value_line c ∷ bound_line c ∷ cuts_line c ∷ map cut_line c.cuts ++ (tree_lines c.tree ++ end_line ∷ []))) x.line (order_line c) x.lines_are (line_is x.line OrderLine (numbers_of_objects s) (due-order x.line.word x.due) (sym order.1)) last.lines_are;
+          }
 
   -- the lines from the number of objects on
   record FromObjects (lines : List TextLine) : Type 0 where
-    order : List ℕ
-    lines_are : lines ≡ map ended (objects_line (cert order) ∷ order_line (cert order) ∷ value_line (cert order) ∷ bound_line (cert order) ∷ cuts_line ∷ leaf_line ∷ end_line ∷ [])
-    holds : IsTreeCertificate C (cert order)
+    certificate : Certificate
+    holds : IsTreeCertificate C certificate
+    value_is : certificate.value ≡ v
+    bound_is : certificate.bound ≡ b
+    lines_are : lines ≡ map ended (objects_line certificate ∷ order_line certificate ∷ value_line certificate ∷ bound_line certificate ∷ cuts_line certificate ∷ map cut_line certificate.cuts ++ (tree_lines certificate.tree ++ end_line ∷ []))
 
-  objects_read : (lines : List TextLine) → Expected is_objects lines (λ numbers rest. cond (nat_abs (only_number numbers) == C.size) (order_step C rest) (rejected 2 reason.Size)) (accepted v b) → FromObjects lines
-  objects_read lines x = by (passed v b (nat_abs (only_number x.line.numbers) == C.size) (order_step C x.rest) 2 reason.Size x.follows)
+  objects_read : (lines : List TextLine) → objects_step C lines ≡ accepted v b → FromObjects lines
+  objects_read lines e =
+      let x = expected v b is_objects 2 lines (λ numbers rest. cond (nat_abs (only_number numbers) == C.size) (order_step C rest) (rejected 2 reason.Size)) e in
+      let t = passed v b (nat_abs (only_number x.line.numbers) == C.size) (order_step C x.rest) 2 reason.Size x.follows in
+      with_rest x (eqb-true (nat_abs (only_number x.line.numbers)) C.size t.0) (order_read x.rest t.1)
     where
-      with_rest : nat_abs (only_number x.line.numbers) ≡ C.size → FromOrder x.rest → FromObjects lines
-      with_rest size last =
+      with_rest : (x : Expected is_objects lines (λ numbers rest. cond (nat_abs (only_number numbers) == C.size) (order_step C rest) (rejected 2 reason.Size)) (accepted v b)) → nat_abs (only_number x.line.numbers) ≡ C.size → FromOrder x.rest → FromObjects lines
+      with_rest x size last =
+          let c = last.certificate in
           let word = due-objects x.line.word x.due in
           let row = row-objects x.line.numbers (row_at x.line.numbers x.line.word Objects word x.row) in
-          let number = count_is (only_number x.line.numbers) (length last.order) row.1 (size ∙ sym last.holds.order_is.complete) in
+          let number = count_is (only_number x.line.numbers) (length c.order) row.1 (size ∙ sym last.holds.order_is.complete) in
           record {
-            order = last.order;
-            lines_are = line_then lines x.rest (map ended (order_line (cert last.order) ∷ value_line (cert last.order) ∷ bound_line (cert last.order) ∷ cuts_line ∷ leaf_line ∷ end_line ∷ [])) x.line (objects_line (cert last.order)) x.lines_are (line_is x.line Objects (pos (length last.order) ∷ []) word (row.0 ∙ ap (λ (n : ℤ). n ∷ []) number)) last.lines_are;
+            certificate = c;
             holds = last.holds;
-          }
-
-      by : ((nat_abs (only_number x.line.numbers) == C.size) ≡ true) × (order_step C x.rest ≡ accepted v b) → FromObjects lines
-      by t = with_rest (eqb-true (nat_abs (only_number x.line.numbers)) C.size t.0) (order_read x.rest (expected v b is_order_line 3 x.rest (λ numbers rest. cond (is_order C.size numbers) (value_step C (objects_of numbers) rest) (rejected 3 reason.OrderLine)) t.1))
-
-  text_read : (bytes : List ℕ) → Expected is_version (text_lines bytes) (λ _ rest. objects_step C rest) (accepted v b) → IsAccepted C bytes v b
-  text_read bytes x = with_rest (objects_read x.rest (expected v b is_objects 2 x.rest (λ numbers rest. cond (nat_abs (only_number numbers) == C.size) (order_step C rest) (rejected 2 reason.Size)) x.follows))
-    where
-      with_rest : FromObjects x.rest → IsAccepted C bytes v b
-      with_rest last =
-          let word = due-version x.line.word x.due in
-          let line = line_is x.line Version (pos 1 ∷ []) word (row-version x.line.numbers (row_at x.line.numbers x.line.word Version word x.row)) in
-          record {
-            certificate = cert last.order;
-            holds = last.holds;
-            text = text-text_lines bytes (certificate_lines (cert last.order)) (line_then (text_lines bytes) x.rest (map ended (objects_line (cert last.order) ∷ order_line (cert last.order) ∷ value_line (cert last.order) ∷ bound_line (cert last.order) ∷ cuts_line ∷ leaf_line ∷ end_line ∷ [])) x.line version_line x.lines_are line last.lines_are);
-            value = refl;
-            bound = refl;
+            value_is = last.value_is;
+            bound_is = last.bound_is;
+            lines_are = line_then lines x.rest (map ended (order_line c ∷ value_line c ∷ bound_line c ∷ cuts_line c ∷ map cut_line c.cuts ++ (tree_lines c.tree ++ end_line ∷ []))) x.line (objects_line c) x.lines_are (line_is x.line Objects (pos (length c.order) ∷ []) word (row.0 ∙ ap (λ (n : ℤ). n ∷ []) number)) last.lines_are;
           }
 
 -- nothing else is accepted
-pub IsAccepted-check_answer : (C : Matrix) (bytes : List ℕ) (v b : ℤ) → check_answer C bytes ≡ accepted v b → IsAccepted C bytes v b
-IsAccepted-check_answer C bytes v b e = text_read C v b bytes (expected v b is_version 1 (text_lines bytes) (λ _ rest. objects_step C rest) e)
+pub IsCertificateText-check_answer : (C : Matrix) (bytes : List ℕ) (v b : ℤ) → check_answer C bytes ≡ accepted v b → IsCertificateText C bytes v b
+IsCertificateText-check_answer C bytes v b e =
+    let x = expected v b is_version 1 (text_lines bytes) (λ _ rest. objects_step C rest) e in
+    with_rest x (objects_read C v b x.rest x.follows)
+  where
+    with_rest : (x : Expected is_version (text_lines bytes) (λ _ rest. objects_step C rest) (accepted v b)) → FromObjects C v b x.rest → IsCertificateText C bytes v b
+    with_rest x last =
+        let c = last.certificate in
+        let word = due-version x.line.word x.due in
+        let line = line_is x.line Version (pos 1 ∷ []) word (row-version x.line.numbers (row_at x.line.numbers x.line.word Version word x.row)) in
+        let lines : text_lines bytes ≡ map ended (certificate_lines c) = line_then (text_lines bytes) x.rest (map ended (objects_line c ∷ order_line c ∷ value_line c ∷ bound_line c ∷ cuts_line c ∷ map cut_line c.cuts ++ (tree_lines c.tree ++ end_line ∷ []))) x.line version_line x.lines_are line last.lines_are in
+        let text = text-text_lines bytes (certificate_lines c) lines in
+        record {
+          certificate = c;
+          holds = last.holds;
+          text = text;
+          value_is = last.value_is;
+          bound_is = last.bound_is;
+          fits = omega (arith, ap length text, within-lines_from (slice_split (λ k. k == 10) bytes) 0 (certificate_lines c) (omega arith) lines);
+        }

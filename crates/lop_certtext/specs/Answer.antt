@@ -1,13 +1,18 @@
 -- What the checker answers: a walk over the lines, in which the first test that fails gives line and reason.
-use Rattle.std.specs.Prelude.{ℕ, ◌+◌, ◌-◌, ◌^◌, Bool, true, false, ◌&&◌, ◌==◌, nat_lt, nat_le, int_lt, int_le, List, [], ◌∷◌, length, map, ℤ, pos, nat_abs, ◌+ℤ◌, Option, None, Some, if◌then◌else◌}
+use Rattle.std.specs.Prelude.{ℕ, zero, suc, ◌+◌, ◌^◌, Bool, true, false, not, ◌&&◌, ◌==◌, nat_lt, nat_le, int_lt, int_le, List, [], ◌∷◌, ◌++◌, length, ℤ, pos, nat_abs, ◌-◌, ◌+ℤ◌, ◌*ℤ◌, Option, None, Some, if◌then◌else◌}
 use Rattle.std.specs.List.{list_any, slice_split}
+use Rattle.lop_model.specs.declared.pair.Pair.{Pair}
 use Rattle.lop_model.specs.Matrix.{Matrix, weight}
-use Rattle.lop_model.specs.Bound.{pair_bound}
+use Rattle.lop_cuts.specs.declared.kind.CutKind.{CutKind}
+use Rattle.lop_cuts.specs.Lagrangian.{lagrangian_value}
 use Rattle.lop_certtext.specs.declared.word.CertWord.{CertWord}
-use Rattle.lop_certtext.specs.declared.word.CertWord.TheVariants.{Version, Objects, OrderLine, Value, Bound, Cuts, Leaf, End}
+use Rattle.lop_certtext.specs.declared.word.CertWord.TheVariants.{Version, Objects, OrderLine, Value, Bound, Cuts, Dicycle, Fence, Ladder, SplitLine, Leaf, End}
 use Rattle.lop_certtext.specs.declared.reason.Reason.{Reason}
 use Rattle.lop_certtext.specs.declared.reason.Reason.TheVariants as reason
 use Rattle.lop_certtext.specs.Line.{CertLine, line_reading}
+use Rattle.lop_certtext.specs.Chains.{reversed, leads, closure_below}
+use Rattle.lop_certtext.specs.CutLine.{objects_of, name_objects, cut_of}
+use Rattle.lop_certtext.specs.LeafLine.{LeafTerms, leaf_of, terms_in}
 
 -- ---- the lines of a text
 
@@ -42,17 +47,21 @@ pub data CheckAnswer : Type 0 where
   rejected : ℕ → Reason → CheckAnswer
   too_long : CheckAnswer
 
-abbrev pub with_line : (CertWord → Bool) → ℕ → Option CertLine → (List ℤ → CheckAnswer) → CheckAnswer
-with_line is_due number None next = rejected number reason.Spelling
-with_line is_due number (Some line) next = if is_due line.word then next line.numbers else rejected number reason.Spelling
+abbrev pub with_line : ℕ → Option CertLine → (CertLine → CheckAnswer) → CheckAnswer
+with_line number None next = rejected number reason.Spelling
+with_line number (Some line) next = next line
 
--- a line with a word that is due here, and then the rest
+-- a line that is spelled right, and then the rest
+abbrev pub spelled : ℕ → List TextLine → (CertLine → List TextLine → CheckAnswer) → CheckAnswer
+spelled number [] next = rejected number reason.Short
+spelled number (long_file ∷ lines) next = too_long
+spelled number (long_line ∷ lines) next = rejected number reason.Spelling
+spelled number (ended_line bytes ∷ lines) next = with_line number (line_reading bytes) (λ line. next line lines)
+spelled number (unended_line bytes ∷ lines) next = rejected number reason.Spelling
+
+-- a line whose word is the one that is due here, and then the rest
 abbrev pub expect : (CertWord → Bool) → ℕ → List TextLine → (List ℤ → List TextLine → CheckAnswer) → CheckAnswer
-expect is_due number [] next = rejected number reason.Short
-expect is_due number (long_file ∷ lines) next = too_long
-expect is_due number (long_line ∷ lines) next = rejected number reason.Spelling
-expect is_due number (ended_line bytes ∷ lines) next = with_line is_due number (line_reading bytes) (λ numbers. next numbers lines)
-expect is_due number (unended_line bytes ∷ lines) next = rejected number reason.Spelling
+expect is_due number lines next = spelled number lines (λ line rest. if is_due line.word then next line.numbers rest else rejected number reason.Spelling)
 
 abbrev pub is_version : CertWord → Bool
 is_version Version = true
@@ -78,10 +87,6 @@ abbrev pub is_cuts : CertWord → Bool
 is_cuts Cuts = true
 is_cuts word = false
 
-abbrev pub is_leaf : CertWord → Bool
-is_leaf Leaf = true
-is_leaf word = false
-
 abbrev pub is_end : CertWord → Bool
 is_end End = true
 is_end word = false
@@ -90,10 +95,6 @@ is_end word = false
 abbrev pub only_number : List ℤ → ℤ
 only_number [] = pos 0
 only_number (n ∷ ns) = n
-
--- the objects of a line, which count from 1 there
-abbrev pub objects_of : List ℤ → List ℕ
-objects_of ns = map (λ n. nat_abs n - 1) ns
 
 -- each number is one of 1 to n, and none stands before it
 abbrev pub are_objects : ℕ → List ℤ → List ℤ → Bool
@@ -105,26 +106,90 @@ are_objects n taken (x ∷ xs) =
 abbrev pub is_order : ℕ → List ℤ → Bool
 is_order n ns = length ns == n && are_objects n [] ns
 
--- The steps, from the last line to the first.
+-- The steps, from the last line to the first. Lines are counted from 1.
 
 -- nothing stands behind the end
-abbrev pub tail_step : ℤ → ℤ → List TextLine → CheckAnswer
-tail_step value bound [] = accepted value bound
-tail_step value bound (long_file ∷ lines) = too_long
-tail_step value bound (long_line ∷ lines) = rejected 9 reason.Tail
-tail_step value bound (ended_line bytes ∷ lines) = rejected 9 reason.Tail
-tail_step value bound (unended_line bytes ∷ lines) = rejected 9 reason.Tail
+abbrev pub tail_step : ℤ → ℤ → ℕ → List TextLine → CheckAnswer
+tail_step value bound number [] = accepted value bound
+tail_step value bound number (long_file ∷ lines) = too_long
+tail_step value bound number (long_line ∷ lines) = rejected number reason.Tail
+tail_step value bound number (ended_line bytes ∷ lines) = rejected number reason.Tail
+tail_step value bound number (unended_line bytes ∷ lines) = rejected number reason.Tail
 
-abbrev pub end_step : ℤ → ℤ → List TextLine → CheckAnswer
-end_step value bound lines = expect is_end 8 lines (λ _ rest. tail_step value bound rest)
+abbrev pub end_step : ℤ → ℤ → ℕ → List TextLine → CheckAnswer
+end_step value bound number lines = expect is_end number lines (λ _ rest. tail_step value bound (number + 1) rest)
 
--- the leaf is of scale 1 and without terms: its number is the pair bound
-abbrev pub leaf_step : Matrix → ℤ → ℤ → List TextLine → CheckAnswer
-leaf_step C value bound lines = expect is_leaf 7 lines
-    (λ _ rest. if int_lt (pair_bound C []) (bound +ℤ pos 1) then end_step value bound rest else rejected 7 (reason.High (pair_bound C []) (bound +ℤ pos 1)))
+-- ---- the tree
+
+-- the pair has two objects, and no chain of the path leads from one to the other
+abbrev pub may_split : List Pair → Pair → Bool
+may_split path p = not (p.before == p.after) && not (leads path p.before p.after) && not (leads path p.after p.before)
+
+-- the pair of 1 to n that a line spells, if it may be split under the path
+abbrev pub split_of : ℕ → List Pair → List ℤ → Option Pair
+split_of n path (a ∷ b ∷ []) =
+    if name_objects n (a ∷ b ∷ []) && may_split path (record { before = nat_abs a - 1; after = nat_abs b - 1 }) then Some (record { before = nat_abs a - 1; after = nat_abs b - 1 }) else None
+split_of n path ns = None
+
+-- the number U of a leaf under a path
+abbrev pub leaf_value : Matrix → List CutKind → List Pair → LeafTerms → ℤ
+leaf_value C cuts path l = lagrangian_value C (closure_below C.size path) l.scale (terms_in cuts l.terms)
+
+-- what it has to be below
+abbrev pub leaf_limit : LeafTerms → ℤ → ℤ
+leaf_limit l bound = pos l.scale *ℤ (bound +ℤ pos 1)
+
+-- a split puts the two extensions of the first pending path in its place
+abbrev pub split_step : List Pair → List (List Pair) → ℕ → Option Pair → (List (List Pair) → CheckAnswer) → CheckAnswer
+split_step path pending number None next = rejected number reason.SplitLine
+split_step path pending number (Some p) next = next ((path ++ p ∷ []) ∷ (path ++ reversed p ∷ []) ∷ pending)
+
+-- a leaf takes it away
+abbrev pub leaf_step : Matrix → List CutKind → ℤ → List Pair → List (List Pair) → ℕ → Option LeafTerms → (List (List Pair) → CheckAnswer) → CheckAnswer
+leaf_step C cuts bound path pending number None next = rejected number reason.Leaf
+leaf_step C cuts bound path pending number (Some l) next =
+    if int_lt (leaf_value C cuts path l) (leaf_limit l bound) then next pending else rejected number (reason.High (leaf_value C cuts path l) (leaf_limit l bound))
+
+-- a line of the tree, where a path is pending
+abbrev pub node_step : Matrix → List CutKind → ℤ → List Pair → List (List Pair) → ℕ → CertWord → List ℤ → (List (List Pair) → CheckAnswer) → CheckAnswer
+node_step C cuts bound path pending number SplitLine ns next = split_step path pending number (split_of C.size path ns) next
+node_step C cuts bound path pending number Leaf ns next = leaf_step C cuts bound path pending number (leaf_of (length cuts) ns) next
+node_step C cuts bound path pending number word ns next = rejected number reason.Spelling
+
+-- the lines of the tree, with the paths whose subtrees are still to come; the end is due where none is left
+abbrev pub tree_step : Matrix → List CutKind → ℤ → ℤ → List (List Pair) → ℕ → List TextLine → CheckAnswer
+tree_step C cuts value bound [] number lines = end_step value bound number lines
+tree_step C cuts value bound (path ∷ pending) number [] = rejected number reason.Short
+tree_step C cuts value bound (path ∷ pending) number (long_file ∷ lines) = too_long
+tree_step C cuts value bound (path ∷ pending) number (long_line ∷ lines) = rejected number reason.Spelling
+tree_step C cuts value bound (path ∷ pending) number (unended_line bytes ∷ lines) = rejected number reason.Spelling
+tree_step C cuts value bound (path ∷ pending) number (ended_line bytes ∷ lines) =
+    with_line number (line_reading bytes) (λ line. node_step C cuts bound path pending number line.word line.numbers (λ left. tree_step C cuts value bound left (number + 1) lines))
+
+-- ---- the lines before it
+
+abbrev pub is_cut_word : CertWord → Bool
+is_cut_word Dicycle = true
+is_cut_word Fence = true
+is_cut_word Ladder = true
+is_cut_word word = false
+
+abbrev pub with_cut : ℕ → Option CutKind → (CutKind → CheckAnswer) → CheckAnswer
+with_cut number None next = rejected number reason.Cut
+with_cut number (Some cut) next = next cut
+
+-- a line of a cut
+abbrev pub cut_step : ℕ → ℕ → CertWord → List ℤ → (CutKind → CheckAnswer) → CheckAnswer
+cut_step n number word ns next = if is_cut_word word then with_cut number (cut_of n word ns) next else rejected number reason.Spelling
+
+-- so many cuts more, and then the tree
+abbrev pub cuts_left_step : Matrix → ℤ → ℤ → ℕ → List CutKind → ℕ → List TextLine → CheckAnswer
+cuts_left_step C value bound zero cuts number lines = tree_step C cuts value bound ([] ∷ []) number lines
+cuts_left_step C value bound (suc k) cuts number lines =
+    spelled number lines (λ line rest. cut_step C.size number line.word line.numbers (λ cut. cuts_left_step C value bound k (cuts ++ cut ∷ []) (number + 1) rest))
 
 abbrev pub cuts_step : Matrix → ℤ → ℤ → List TextLine → CheckAnswer
-cuts_step C value bound lines = expect is_cuts 6 lines (λ _ rest. leaf_step C value bound rest)
+cuts_step C value bound lines = expect is_cuts 6 lines (λ numbers rest. cuts_left_step C value bound (nat_abs (only_number numbers)) [] 7 rest)
 
 abbrev pub bound_step : Matrix → ℤ → List TextLine → CheckAnswer
 bound_step C value lines = expect is_bound 5 lines (λ numbers rest. cuts_step C value (only_number numbers) rest)

@@ -1,4 +1,8 @@
 pub mod Line
+pub mod Chains
+pub mod CutLine
+pub mod LeafLine
+pub mod Tree
 pub mod Certificate
 pub mod Answer
 pub mod Reading

@@ -1,5 +1,5 @@
 -- A certificate's line: a first word, and numbers with one blank before each.
-use Rattle.std.specs.Prelude.{ℕ, zero, suc, ◌^◌, Bool, true, false, ◌&&◌, ◌==◌, nat_lt, List, [], ◌∷◌, ◌++◌, codes, ℤ, pos, negsuc, neg_ℤ, nat_abs, Option, None, Some, if◌then◌else◌}
+use Rattle.std.specs.Prelude.{ℕ, zero, suc, ◌^◌, Bool, true, false, ◌&&◌, ◌==◌, nat_lt, int_le, List, [], ◌∷◌, ◌++◌, codes, ℤ, pos, negsuc, neg_ℤ, nat_abs, Option, None, Some, if◌then◌else◌}
 use Rattle.std.specs.Fmt.{signed_decimal}
 use Rattle.std.specs.List.{flat_map, list_all, slice_split}
 use Rattle.std.specs.Str.{bytes_eq}
@@ -34,15 +34,28 @@ is_count (negsuc n) = false
 abbrev pub is_signed : ℤ → Bool
 is_signed n = nat_lt (nat_abs n) (2 ^ 63)
 
--- the numbers that may stand behind a word. There are no cuts and no splits yet, and one leaf, of scale 1 and without terms.
+-- the greatest number of cuts of a certificate
+abbrev pub most_cuts : ℕ
+most_cuts = 1048576
+
+-- one number or more, each of at most 2^63 - 1
+abbrev pub are_counts : List ℤ → Bool
+are_counts [] = false
+are_counts (n ∷ ns) = list_all is_count (n ∷ ns)
+
+-- the numbers that may stand behind a word
 abbrev pub is_row : CertWord → List ℤ → Bool
 is_row Version (pos (suc zero) ∷ []) = true
 is_row Objects (n ∷ []) = is_count n
-is_row OrderLine (n ∷ ns) = list_all is_count (n ∷ ns)
+is_row OrderLine ns = are_counts ns
 is_row Value (n ∷ []) = is_signed n
 is_row Bound (n ∷ []) = is_signed n
-is_row Cuts (pos zero ∷ []) = true
-is_row Leaf (pos (suc zero) ∷ pos zero ∷ []) = true
+is_row Cuts (n ∷ []) = int_le (pos 0) n && int_le n (pos most_cuts)
+is_row Dicycle ns = are_counts ns
+is_row Fence ns = are_counts ns
+is_row Ladder ns = are_counts ns
+is_row SplitLine ns = are_counts ns
+is_row Leaf ns = are_counts ns
 is_row End [] = true
 is_row word ns = false
 

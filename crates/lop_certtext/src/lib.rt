@@ -14,6 +14,6 @@ mod write;
 pub use read::{Spelling, read_line};
 pub use reason::Reason;
 pub use room::{NUMBER_ROOM, NumberRoom};
-pub use row::is_row;
+pub use row::{MOST_CUTS, is_row};
 pub use word::CertWord;
 pub use write::put_line;

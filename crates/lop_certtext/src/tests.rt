@@ -6,7 +6,7 @@ use std::test::Fail;
 
 #[test]
 fn lines_read_and_written(rt: HostRuntime) -> Result<(), Fail> {
-    let lines: [(&[u8], CertWord, &[i64]); 13] = [
+    let lines: [(&[u8], CertWord, &[i64]); 20] = [
         (b"lopcert 1", CertWord::Version, &[1]),
         (b"objects 0", CertWord::Objects, &[0]),
         (
@@ -30,7 +30,14 @@ fn lines_read_and_written(rt: HostRuntime) -> Result<(), Fail> {
         (b"bound -1", CertWord::Bound, &[-1]),
         (b"bound 10", CertWord::Bound, &[10]),
         (b"cuts 0", CertWord::Cuts, &[0]),
+        (b"cuts 1048576", CertWord::Cuts, &[1_048_576]),
+        (b"dicycle 1 2 3", CertWord::Dicycle, &[1, 2, 3]),
+        (b"dicycle 0", CertWord::Dicycle, &[0]),
+        (b"fence 1 2", CertWord::Fence, &[1, 2]),
+        (b"ladder 3 3 1 2", CertWord::Ladder, &[3, 3, 1, 2]),
+        (b"split 1 2", CertWord::SplitLine, &[1, 2]),
         (b"leaf 1 0", CertWord::Leaf, &[1, 0]),
+        (b"leaf 2 1 5", CertWord::Leaf, &[2, 1, 5]),
         (b"end", CertWord::End, &[]),
     ];
     let mut room = NumberRoom::new(rt.alloc())?;
@@ -61,7 +68,7 @@ fn round_trip(
 
 #[test]
 fn texts_that_are_no_lines(rt: HostRuntime) -> Result<(), Fail> {
-    let texts: [&[u8]; 36] = [
+    let texts: [&[u8]; 37] = [
         b"",
         b" ",
         b"lopcert",
@@ -89,12 +96,13 @@ fn texts_that_are_no_lines(rt: HostRuntime) -> Result<(), Fail> {
         b"value 4x",
         b"value 9223372036854775808",
         b"value -9223372036854775808",
-        b"cuts 1",
-        b"dicycle 1 2 3",
-        b"fence 3 1 2 3 4 5 6",
-        b"split 1 2",
-        b"leaf 1 1",
-        b"leaf 2 0",
+        b"cuts 1048577",
+        b"cuts 0 0",
+        b"dicycle",
+        b"fence",
+        b"ladder -3",
+        b"split 1 -2",
+        b"leaf",
         b" end",
         b"end ",
         b"ending",

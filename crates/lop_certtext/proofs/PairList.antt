@@ -1,0 +1,72 @@
+-- The list of the pairs that are related.
+use Rattle.std.proofs.Common.{◌≡◌, ◌≢◌, ℕ, zero, suc, ◌+◌, Bool, true, false, cond, eqb, ltb, leb, ◌&&◌, ◌||◌, List, ◌∷◌, map, refl, sym, ◌∙◌, ap, ◌<◌, arith}
+use Rattle.std.specs.List.{range_with_len, filter, flat_map}
+use Rattle.std.proofs.lemmas.Bool.Decides.{nat_tests}
+use Rattle.std.proofs.lemmas.List.Folds.{list_any-append}
+use Rattle.lop_model.specs.declared.pair.Pair.{Pair}
+use Rattle.lop_model.specs.Fixings.{has_pair}
+use Rattle.lop_certtext.specs.Chains.{leads, closure_below}
+
+abbrev pair : ℕ → ℕ → Pair
+pair a b = record { before = a; after = b }
+
+-- the pairs of objects below n that are related
+abbrev pairs_of : ℕ → (ℕ → ℕ → Bool) → List Pair
+pairs_of n related = flat_map (λ a. map (pair a) (filter (related a) (range_with_len 0 n))) (range_with_len 0 n)
+
+empty_row : (t s : Bool) (c y : ℕ) → false ≡ (t && ((leb c y && ltb y (c + 0)) && s))
+empty_row t s c y = grind (arith, nat_tests)
+
+empty_rows : (s : Bool) (c x : ℕ) → false ≡ ((leb c x && ltb x (c + 0)) && s)
+empty_rows s c x = grind (arith, nat_tests)
+
+other_row : (a x : ℕ) (b : Bool) → a ≢ x → (eqb a x && b) ≡ false
+other_row a x b ne = grind (arith, nat_tests)
+
+tidy_tests : (x y n : ℕ) (r : Bool) → ((leb 0 x && ltb x (0 + n)) && (eqb x x && ((leb 0 y && ltb y (0 + n)) && r))) ≡ ((ltb x n && ltb y n) && r)
+tidy_tests x y n r = grind (arith, nat_tests)
+
+rows_step : (h hx b : Bool) (c x k : ℕ) → (c ≡ x → h ≡ hx) → (c ≢ x → h ≡ false) → b ≡ ((leb (c + 1) x && ltb x (c + 1 + k)) && hx) → (h || b) ≡ ((leb c x && ltb x (c + suc k)) && hx)
+rows_step h hx b c x k same none e = grind (arith, nat_tests)
+
+row_step : (t r s b : Bool) (c y k : ℕ) → (c ≡ y → r ≡ s) → b ≡ (t && ((leb (c + 1) y && ltb y (c + 1 + k)) && s)) → cond r ((t && eqb c y) || b) b ≡ (t && ((leb c y && ltb y (c + suc k)) && s))
+row_step t r s b c y k same e = grind (arith, nat_tests)
+
+has_pair-cond : (r : Bool) (a c x y : ℕ) (F : List ℕ) → has_pair (map (pair a) (cond r (c ∷ F) F)) x y ≡ cond r ((eqb a x && eqb c y) || has_pair (map (pair a) F) x y) (has_pair (map (pair a) F) x y)
+has_pair-cond true a c x y F = refl
+has_pair-cond false a c x y F = refl
+
+has_pair-row : (r : ℕ → Bool) (a c k x y : ℕ) → has_pair (map (pair a) (filter r (range_with_len c k))) x y ≡ (eqb a x && ((leb c y && ltb y (c + k)) && r y))
+has_pair-row r a c zero x y = empty_row (eqb a x) (r y) c y
+has_pair-row r a c (suc k) x y =
+    has_pair-cond (r c) a c x y (filter r (range_with_len (c + 1) k))
+    ∙ row_step (eqb a x) (r c) (r y) (has_pair (map (pair a) (filter r (range_with_len (c + 1) k))) x y) c y k (ap r) (has_pair-row r a (c + 1) k x y)
+
+has_pair-rows : (f : ℕ → List Pair) (x y : ℕ) → ((a : ℕ) → a ≢ x → has_pair (f a) x y ≡ false) → (c k : ℕ) → has_pair (flat_map f (range_with_len c k)) x y ≡ ((leb c x && ltb x (c + k)) && has_pair (f x) x y)
+has_pair-rows f x y none c zero = empty_rows (has_pair (f x) x y) c x
+has_pair-rows f x y none c (suc k) =
+    list_any-append (λ p. eqb p.before x && eqb p.after y) (f c) (flat_map f (range_with_len (c + 1) k))
+    ∙ rows_step (has_pair (f c) x y) (has_pair (f x) x y) (has_pair (flat_map f (range_with_len (c + 1) k)) x y) c x k
+    (λ e. ap (λ a. has_pair (f a) x y) e) (none c) (has_pair-rows f x y none (c + 1) k)
+
+-- a pair is in the list where its objects are below n and related
+has_pair-pairs_of : (n : ℕ) (related : ℕ → ℕ → Bool) (x y : ℕ) → has_pair (pairs_of n related) x y ≡ ((ltb x n && ltb y n) && related x y)
+has_pair-pairs_of n related x y =
+    let f : ℕ → List Pair = λ a. map (pair a) (filter (related a) (range_with_len 0 n)) in
+    has_pair-rows f x y (λ a ne. has_pair-row (related a) a 0 n x y ∙ other_row a x (leb 0 y && ltb y (0 + n) && related a y) ne) 0 n
+    ∙ ap (λ b. (leb 0 x && ltb x (0 + n)) && b) (has_pair-row (related x) x 0 n x y)
+    ∙ tidy_tests x y n (related x y)
+
+both_below : (x y n : ℕ) (r : Bool) → x < n → y < n → ((ltb x n && ltb y n) && r) ≡ r
+both_below x y n r l m = grind (arith, nat_tests)
+
+past_both : (x y n : ℕ) (r : Bool) → ((ltb x n && ltb y n) && r) ≡ true → r ≡ true
+past_both x y n r e = grind (arith, nat_tests)
+
+-- a pair of objects below n is in the closure where a chain leads from the one to the other
+pub has_pair-closure_below : (n : ℕ) (path : List Pair) (x y : ℕ) → x < n → y < n → has_pair (closure_below n path) x y ≡ leads path x y
+has_pair-closure_below n path x y l m = has_pair-pairs_of n (leads path) x y ∙ both_below x y n (leads path x y) l m
+
+-- and no other pair
+pub leads-closure_below : (n : ℕ) (path : List Pair) (x y : ℕ) → has_pair (closure_below n path) x y ≡ true → leads path x y ≡ true
+leads-closure_below n path x y t = past_both x y n (leads path x y) (sym (has_pair-pairs_of n (leads path) x y) ∙ t)

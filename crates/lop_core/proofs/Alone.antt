@@ -1,5 +1,5 @@
 -- What one worker meets that works alone, and what is known once it ends.
-use Rattle.std.proofs.Common.{◌≡◌, ℕ, ◌+◌, ◌≤◌, List, [], ◌∷◌, ◌++◌, length, ◌⊎◌, inl, inr, arith, sym, ◌∙◌, Some, refl, ap, subst, Bool, true, false}
+use Rattle.std.proofs.Common.{◌≡◌, ℕ, ◌+◌, List, [], ◌∷◌, ◌++◌, length, inl, inr, arith, sym, ◌∙◌, Some, refl, ap, subst, Bool, true, false}
 use Rattle.std.specs.Prelude.{slice_get, ℤ, pos, ◌<ℤ◌, ◌≤ℤ◌, count_by, int_lt}
 use Rattle.std.proofs.lemmas.Int.{ints}
 use Rattle.std.proofs.lemmas.List.{length_push}
@@ -24,7 +24,7 @@ use Rattle.lop_core.specs.Outcome.{IsFinished, IsOutcome}
 use Rattle.lop_core.proofs.Sound.{one_if, count_changed}
 use Rattle.lop_core.proofs.Replay.{raised-le}
 use Rattle.lop_core.proofs.CoreLemmas.{core_counted}
-use Rattle.lop_core.proofs.Monotone.{AreWithin, state_bound_within}
+use Rattle.lop_core.proofs.Monotone.{state_bound_within}
 
 -- after a take and its report one node more is evaluated, and as many are out as before
 pub turn_counts : (old new : CoreFields) (t r : Entry) → HasHistory old → HasHistory new → new.problem ≡ old.problem → new.journal ≡ (old.journal ++ t ∷ []) ++ r ∷ [] → is_report t ≡ false → is_report r ≡ true
@@ -100,11 +100,12 @@ taken_in old new worker found Closed out step = step.0
 taken_in old new worker found (replies.Split first) out step = step.0
 
 -- a node was handed out to the worker, and what was found there was taken in
-pub turned : (old mid new : CoreFields) (worker node : ℕ) (found : EvaluatedFields) → HasHistory old → HasHistory new → mid ≡ with_entry old (Take worker node) old.order → new ≡ with_entry mid (entry_of worker found) new.order
+pub turned : (old mid new : CoreFields) (worker node : ℕ) (found : EvaluatedFields) → HasHistory old → HasHistory new → mid ≡ with_entry old (Take worker node) old.order
+    → new ≡ record (with_entry mid (entry_of mid worker found) new.order) { book = new.book }
     → (new.problem ≡ old.problem) × (new.state.evaluated ≡ old.state.evaluated + 1) × (out_count new.state.nodes ≡ out_count old.state.nodes)
 turned old mid new worker node found h g first second =
     let problem : new.problem ≡ old.problem = ap (λ (x : CoreFields). x.problem) second ∙ ap (λ (x : CoreFields). x.problem) first in
-    let journal : new.journal ≡ (old.journal ++ Take worker node ∷ []) ++ entry_of worker found ∷ [] =
-    ap (λ (x : CoreFields). x.journal) second ∙ ap (λ (x : CoreFields). x.journal ++ entry_of worker found ∷ []) first in
-    let counts = turn_counts old new (Take worker node) (entry_of worker found) h g problem journal refl refl in
+    let journal : new.journal ≡ (old.journal ++ Take worker node ∷ []) ++ entry_of mid worker found ∷ [] =
+    ap (λ (x : CoreFields). x.journal) second ∙ ap (λ (x : CoreFields). x.journal ++ entry_of mid worker found ∷ []) first in
+    let counts = turn_counts old new (Take worker node) (entry_of mid worker found) h g problem journal refl refl in
     (problem, counts.0, counts.1)

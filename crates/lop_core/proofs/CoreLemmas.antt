@@ -1,6 +1,6 @@
 -- A core keeps its history over a take and a report, and it has room for the entry and the nodes.
 use Rattle.std.proofs.Common.{◌≡◌, ℕ, ◌+◌, ◌*◌, ◌<◌, ◌≤◌, List, [], ◌∷◌, ◌++◌, length, get_or, set, arith, sym, ◌∙◌, Some, None, Option, refl, ap, subst, Bool, true, false}
-use Rattle.std.proofs.lemmas.List.{get_or_read, length_push}
+use Rattle.std.proofs.lemmas.List.{get_or_read, get_or_default, length_push}
 use Rattle.std.proofs.lemmas.Option.{slice_get_read, get_or_from_slice_get, slice_get_within}
 use Rattle.std.specs.Prelude.{slice_get, ℤ, pos, ◌≤ℤ◌, fold, int_lt, IfSome, IfNone, if◌then◌else◌, ◌↔◌}
 use Rattle.std.specs.Int.{int_max}
@@ -10,10 +10,12 @@ use Rattle.lop_model.specs.Order.{IsOrder}
 use Rattle.lop_model.specs.Matrix.{Matrix, weight}
 use Rattle.lop_model.specs.Fixings.{IsClosure, IsUndecided, IsBranchingPath, AreAllDecided}
 use Rattle.lop_model.specs.Bound.{pair_bound}
-use Rattle.lop_leaf.specs.Record.{ScaledTerms, no_terms}
+use Rattle.lop_core.specs.Records.{RecordBook, IsRecordBook, record_at, scaled_of, finds_room, term_room, IsTakenOrKept}
+use Rattle.lop_leaf.specs.Record.{ScaledTerms, IsScaledTerms}
 use Rattle.lop_leaf.specs.Ticket.{TicketFields, pair_count}
-use Rattle.lop_leaf.specs.Sound.{Certifies, IsDecidedResult}
-use Rattle.lop_leaf.proofs.PathLemmas.{weight-le-certified}
+use Rattle.lop_leaf.specs.Bound.{CertifiesUnder}
+use Rattle.lop_leaf.specs.Sound.{IsDecidedResult}
+use Rattle.lop_leaf.proofs.PathLemmas.{weight-le-certified_under, CertifiesUnder-result}
 use Rattle.lop_core.proofs.Lists.{EachFollows-nil, slice_get-set_same}
 use Rattle.lop_core.proofs.TreeLemmas.{paths-changed}
 use Rattle.lop_core.specs.declared.node.SearchNode.{SearchNode}
@@ -24,13 +26,14 @@ use Rattle.lop_core.specs.declared.node.Standing.TheVariants.{Idle, Out}
 use Rattle.lop_leaf.specs.Evaluated.{EvaluatedFields}
 use Rattle.lop_core.specs.Tree.{no_pair, child, node_at, path_of, is_out, out_count, IsCoveredOnce}
 use Rattle.lop_core.specs.Machine.{Problem, SearchState, changed, after, settled, divided, closed, settled_nodes, IsOutTo, IsReady, IsLive, IsFirstReady, raised_by, state_bound}
-use Rattle.lop_core.specs.Journal.{AreCounted, MayTake, MayReport, MayFollow, HasTake, HasReport, entries_of}
-use Rattle.lop_core.specs.Core.{CoreFields, prepared, HasHistory, AreCertified, with_entry, IsTicketOf, IsHandedOut, IsSoundReport, ticket_of, entry_of, KeepsOrder}
+use Rattle.lop_core.specs.Journal.{AreCounted, room_count, IsWithinPackingBound, MayTake, MayReport, MayFollow, HasTake, HasReport, entries_of}
+use Rattle.lop_core.specs.Core.{CoreFields, prepared, root_book, HasHistory, AreRecorded, with_entry, IsTicketOf, IsHandedOut, IsSoundReport, ticket_of, has_room_for, entry_of, KeepsOrder}
 use Rattle.lop_core.proofs.Replay.{replay_push, IsLawful_push, sound_replay, covered_once, weight-le-state_bound}
 use Rattle.lop_core.proofs.Fates.{out_exactly}
 use Rattle.lop_core.proofs.Sound.{count_changed, one_if}
 use Rattle.lop_core.proofs.PathRoom.{length-branching}
-use Rattle.lop_core.proofs.Certified.{certified_root, certified_changed, certified_settled}
+use Rattle.lop_core.proofs.Certified.{certified_root}
+use Rattle.lop_core.proofs.BookLemmas.{refused_late, without_terms_found, cuts_below, TakenFacts, facts_of, GrownBook, report_recorded, rooms_after}
 use Rattle.lop_core.proofs.Counts.{counted}
 
 -- what holds of the counts of a core
@@ -103,12 +106,20 @@ pub core_branching : (core : CoreFields) → HasHistory core → (i : ℕ) → i
 core_branching core h = subst (λ (s : SearchState). (i : ℕ) → i < length s.nodes → IsBranchingPath core.problem.weights.size (path_of s.nodes i)) (sym h.replayed)
     (sound_replay core.problem core.journal h.lawful).lawful
 
--- what a sound report shows: its bound is the pair bound under the node's path
-reported_bound : (core : CoreFields) (found : EvaluatedFields) → IsSoundReport core found → (G : List Pair) → IsClosure (path_of core.state.nodes found.node) G → found.bound ≡ pair_bound core.problem.weights G
-reported_bound core found r G c = r.sound.bound G (subst (λ (p : List Pair). IsClosure p G) (sym r.is_of.path) c)
+-- the book plays no part in the history
+pub other_book : (core : CoreFields) (book : RecordBook) → HasHistory core → HasHistory (record core { book = book })
+other_book core book h = record { lawful = h.lawful; replayed = h.replayed; is_order = h.is_order; weighs = h.weighs }
 
-reported_certified : (core : CoreFields) (found : EvaluatedFields) → IsSoundReport core found → Certifies core.problem.weights (path_of core.state.nodes found.node) found.bound
-reported_certified core found r = record { each = λ G c. let same : found.bound ≡ pair_bound core.problem.weights G = reported_bound core found r G c in omega (arith, ints) }
+-- what a sound report shows: its record certifies its bound, which is at most the packing bound under the node's path
+pub reported_certified : (core : CoreFields) (found : EvaluatedFields) → IsSoundReport core found → CertifiesUnder core.problem.weights (path_of core.state.nodes found.node) found.shown found.bound
+reported_certified core found r = subst (λ (p : List Pair). CertifiesUnder core.problem.weights p found.shown found.bound) r.is_of.path (CertifiesUnder-result core.problem.weights r.ticket found r.sound)
+
+reported_packed : (core : CoreFields) (found : EvaluatedFields) → IsSoundReport core found → IsWithinPackingBound core.problem.weights (path_of core.state.nodes found.node) found.bound
+reported_packed core found r G c = r.sound.packed G (subst (λ (p : List Pair). IsClosure p G) (sym r.is_of.path) c)
+
+decided_room : (core : CoreFields) (found : EvaluatedFields) (pair : Option Pair) (t : TicketFields) → IfNone pair (IsDecidedResult core.problem.weights t found) → IfNone pair (has_room_for core found ≡ true)
+decided_room core found None t d = without_terms_found (term_room core.problem.budget) core.book found.shown d.shown
+decided_room core found (Some p) t d = tt
 
 decided_value : (core : CoreFields) (found : EvaluatedFields) (path : List Pair) (pair : Option Pair) (t : TicketFields) → t.path ≡ path → IfNone pair (IsDecidedResult core.problem.weights t found)
     → IfNone pair (AreAllDecided core.problem.weights.size path × (found.value ≡ found.bound))
@@ -123,39 +134,46 @@ reported_undecided : (core : CoreFields) (found : EvaluatedFields) → IsSoundRe
 reported_undecided core found r = undecided_pair core.problem.weights.size r.ticket.path (path_of core.state.nodes found.node) found.pair r.is_of.path r.sound.undecided
 
 -- a sound report may come
-may_report : (core : CoreFields) (w : ℕ) (found : EvaluatedFields) → HasHistory core → IsOutTo core.state w found.node → IsSoundReport core found
-    → MayReport core.problem core.state w found.node found.bound found.pair found.value true
-may_report core w found h out r =
-    let path : List Pair = path_of core.state.nodes found.node in
+may_report : (core : CoreFields) (w : ℕ) (found : EvaluatedFields) → HasHistory core → AreRecorded core → IsScaledTerms found.shown → IsOutTo core.state w found.node → IsSoundReport core found
+    → MayReport core.problem core.state (room_count core.journal) w found.node found.bound found.pair found.value (has_room_for core found)
+may_report core w found h kept few out r =
     let lt : found.node < length core.state.nodes = slice_get_within core.state.nodes found.node out.0 out.1 in
     record {
       is_out = out;
       no_more = subst (λ (b : ℤ). found.bound ≤ℤ b) r.is_of.bound r.sound.no_more;
-      yardstick = λ G c. let same : found.bound ≡ pair_bound core.problem.weights G = reported_bound core found r G c in omega (arith, ints);
-      holds = λ s o x. weight-le-certified core.problem.weights (path_of core.state.nodes found.node) found.bound s (core_branching core h found.node lt) (reported_certified core found r) o x;
+      packed = reported_packed core found r;
+      holds = λ s o x. weight-le-certified_under core.problem.weights (path_of core.state.nodes found.node) found.shown found.bound s (core_branching core h found.node lt) r.sound.cuts (reported_certified core found r) o x;
       attained = record { order = found.order; is_order = r.sound.order; weighs = sym r.sound.value };
       undecided = reported_undecided core found r;
       all_decided = decided_value core found (path_of core.state.nodes found.node) found.pair r.ticket r.is_of.path r.sound.all_decided;
-      with_room = refl;
+      decided_room = decided_room core found found.pair r.ticket r.sound.all_decided;
+      refused = λ e. refused_late core.problem.budget core.book found.shown.terms (room_count core.journal) e kept.terms kept.cuts few.bounded_count;
     }
 
--- the state after a report that found room
-report_after : (s : SearchState) (w : ℕ) (found : EvaluatedFields) → after s (entry_of w found)
-    ≡ record { nodes = settled_nodes s.nodes found.node found.bound (int_max s.best found.value) found.pair; best = int_max s.best found.value; evaluated = s.evaluated + 1 }
+-- the bound that a node has after a report
+abbrev pub kept_bound : CoreFields → EvaluatedFields → ℤ
+kept_bound core found = if has_room_for core found then found.bound else (node_at core.state.nodes found.node).bound
+
+-- the state after a report
+report_after : (core : CoreFields) (w : ℕ) (found : EvaluatedFields) → after core.state (entry_of core w found) ≡ record {
+  nodes = settled_nodes core.state.nodes found.node (kept_bound core found) (int_max core.state.best found.value) found.pair;
+  best = int_max core.state.best found.value;
+  evaluated = core.state.evaluated + 1;
+}
 unfolding after
-report_after s w found = go found.pair where
-  go : (p : Option Pair) → settled s found.node found.bound (int_max s.best found.value) p
-      ≡ record { nodes = settled_nodes s.nodes found.node found.bound (int_max s.best found.value) p; best = int_max s.best found.value; evaluated = s.evaluated + 1 }
-  go None = refl
-  go (Some p) = test (int_lt (int_max s.best found.value) found.bound) where
-    test : (b : Bool) → (if b then divided s found.node found.bound (int_max s.best found.value) p else closed s found.node found.bound (int_max s.best found.value))
-        ≡ record {
-          nodes = (if b then divided (record { nodes = s.nodes; best = int_max s.best found.value; evaluated = 0 }) found.node found.bound (int_max s.best found.value) p else closed (record { nodes = s.nodes; best = int_max s.best found.value; evaluated = 0 }) found.node found.bound (int_max s.best found.value)).nodes;
-          best = int_max s.best found.value;
-          evaluated = s.evaluated + 1;
-        }
-    test true = refl
-    test false = refl
+report_after core w found = go core.state found.node (kept_bound core found) (int_max core.state.best found.value) found.pair where
+  test : (s : SearchState) (n : ℕ) (bound best : ℤ) (p : Pair) (b : Bool) → (if b then divided s n bound best p else closed s n bound best)
+      ≡ record {
+        nodes = (if b then divided (record { nodes = s.nodes; best = best; evaluated = 0 }) n bound best p else closed (record { nodes = s.nodes; best = best; evaluated = 0 }) n bound best).nodes;
+        best = best;
+        evaluated = s.evaluated + 1;
+      }
+  test s n bound best p true = refl
+  test s n bound best p false = refl
+
+  go : (s : SearchState) (n : ℕ) (bound best : ℤ) (p : Option Pair) → settled s n bound best p ≡ record { nodes = settled_nodes s.nodes n bound best p; best = best; evaluated = s.evaluated + 1 }
+  go s n bound best None = refl
+  go s n bound best (Some p) = test s n bound best p (int_lt best bound)
 
 -- the order that is kept has the greater weight
 kept_weighs : (C : Matrix) (best value : ℤ) (old new : List ℕ) → weight C old ≡ best → weight C new ≡ value
@@ -178,27 +196,28 @@ kept_order old found = go (int_lt old.state.best found.value) refl where
 abbrev pub better_of : CoreFields → EvaluatedFields → List ℕ
 better_of view found = if int_lt view.state.best found.value then found.order else view.order
 
-pub core_report : (view : CoreFields) (w : ℕ) (found : EvaluatedFields) → HasHistory view → IsOutTo view.state w found.node → IsSoundReport view found
-    → HasHistory (with_entry view (entry_of w found) (better_of view found))
-core_report view w found h out sound =
-    let may = subst (λ (s : SearchState). MayReport view.problem s w found.node found.bound found.pair found.value true) h.replayed (may_report view w found h out sound) in
-    with_entry_true view (entry_of w found) (better_of view found) h may
+pub core_report : (view : CoreFields) (w : ℕ) (found : EvaluatedFields) → HasHistory view → AreRecorded view → IsScaledTerms found.shown → IsOutTo view.state w found.node → IsSoundReport view found
+    → HasHistory (with_entry view (entry_of view w found) (better_of view found))
+core_report view w found h kept few out sound =
+    let may = subst (λ (s : SearchState). MayReport view.problem s (room_count view.journal) w found.node found.bound found.pair found.value (has_room_for view found)) h.replayed (may_report view w found h kept few out sound) in
+    with_entry_true view (entry_of view w found) (better_of view found) h may
     (kept_is_order view.problem.weights.size (int_lt view.state.best found.value) view.order found.order h.is_order sound.sound.order)
     (kept_weighs view.problem.weights view.state.best found.value view.order found.order h.weighs (sym sound.sound.value)
-    ∙ sym (ap (λ (s : SearchState). s.best) (report_after view.state w found)))
+    ∙ sym (ap (λ (s : SearchState). s.best) (report_after view w found)))
 
 pub report_view : (view : CoreFields) (w : ℕ) (found : EvaluatedFields) (nodes : List SearchNode) (best : ℤ) (journal : List Entry) (order : List ℕ)
-    → nodes ≡ settled_nodes view.state.nodes found.node found.bound best found.pair → best ≡ int_max view.state.best found.value → journal ≡ view.journal ++ entry_of w found ∷ []
+    → nodes ≡ settled_nodes view.state.nodes found.node (kept_bound view found) best found.pair → best ≡ int_max view.state.best found.value → journal ≡ view.journal ++ entry_of view w found ∷ []
     → order ≡ better_of view found
-    → record view { state = record { nodes = nodes; best = best; evaluated = view.state.evaluated + 1 }; journal = journal; order = order } ≡ with_entry view (entry_of w found) (better_of view found)
+    → record view { state = record { nodes = nodes; best = best; evaluated = view.state.evaluated + 1 }; journal = journal; order = order } ≡ with_entry view (entry_of view w found) (better_of view found)
 report_view view w found nodes best journal order en eb ej eo =
-    let en2 : nodes ≡ settled_nodes view.state.nodes found.node found.bound (int_max view.state.best found.value) found.pair =
-    en ∙ ap (λ (b : ℤ). settled_nodes view.state.nodes found.node found.bound b found.pair) eb in
+    let bound : ℤ = kept_bound view found in
+    let en2 : nodes ≡ settled_nodes view.state.nodes found.node (kept_bound view found) (int_max view.state.best found.value) found.pair =
+    en ∙ ap (λ (b : ℤ). settled_nodes view.state.nodes found.node (kept_bound view found) b found.pair) eb in
     ap (λ (x : List SearchNode). record view { state = record { nodes = x; best = best; evaluated = view.state.evaluated + 1 }; journal = journal; order = order }) en2
-    ∙ (ap (λ (b : ℤ). record view { state = record { nodes = settled_nodes view.state.nodes found.node found.bound (int_max view.state.best found.value) found.pair; best = b; evaluated = view.state.evaluated + 1 }; journal = journal; order = order }) eb
-    ∙ (ap (λ (j : List Entry). record view { state = record { nodes = settled_nodes view.state.nodes found.node found.bound (int_max view.state.best found.value) found.pair; best = int_max view.state.best found.value; evaluated = view.state.evaluated + 1 }; journal = j; order = order }) ej
-    ∙ (ap (λ (o : List ℕ). record view { state = record { nodes = settled_nodes view.state.nodes found.node found.bound (int_max view.state.best found.value) found.pair; best = int_max view.state.best found.value; evaluated = view.state.evaluated + 1 }; journal = view.journal ++ entry_of w found ∷ []; order = o }) eo
-    ∙ ap (λ (s : SearchState). record view { state = s; journal = view.journal ++ entry_of w found ∷ []; order = better_of view found }) (sym (report_after view.state w found)))))
+    ∙ (ap (λ (b : ℤ). record view { state = record { nodes = settled_nodes view.state.nodes found.node bound (int_max view.state.best found.value) found.pair; best = b; evaluated = view.state.evaluated + 1 }; journal = journal; order = order }) eb
+    ∙ (ap (λ (j : List Entry). record view { state = record { nodes = settled_nodes view.state.nodes found.node bound (int_max view.state.best found.value) found.pair; best = int_max view.state.best found.value; evaluated = view.state.evaluated + 1 }; journal = j; order = order }) ej
+    ∙ (ap (λ (o : List ℕ). record view { state = record { nodes = settled_nodes view.state.nodes found.node bound (int_max view.state.best found.value) found.pair; best = int_max view.state.best found.value; evaluated = view.state.evaluated + 1 }; journal = view.journal ++ entry_of view w found ∷ []; order = o }) eo
+    ∙ ap (λ (s : SearchState). record view { state = s; journal = view.journal ++ entry_of view w found ∷ []; order = better_of view found }) (sym (report_after view w found)))))
 
 -- the counts before and after a report
 pub report_counts : (view : CoreFields) (w n : ℕ) → HasHistory view → IsOutTo view.state w n → 1 ≤ out_count view.state.nodes
@@ -217,58 +236,87 @@ not_there s w n le out = let lt : n < length s.nodes = slice_get_within s.nodes 
 
 -- what the code leaves of a report
 pub record Leaves (view : CoreFields) (w : ℕ) (found : EvaluatedFields) (nodes : List SearchNode) (best : ℤ) (journal : List Entry) (order : List ℕ) : Type 0 where
-  pub nodes_are : nodes ≡ settled_nodes view.state.nodes found.node found.bound best found.pair
+  pub nodes_are : nodes ≡ settled_nodes view.state.nodes found.node (kept_bound view found) best found.pair
   pub best_is : best ≡ int_max view.state.best found.value
-  pub journal_is : journal ≡ view.journal ++ entry_of w found ∷ []
+  pub journal_is : journal ≡ view.journal ++ entry_of view w found ∷ []
   pub order_is : order ≡ better_of view found
 
--- the same by the numbers, the pair and the order as the code passed them on
+-- the same by the numbers, the pair, the order and the answer on the room as the code passed them on
 pub leaves_by : (view : CoreFields) (w : ℕ) (found : EvaluatedFields) (nodes : List SearchNode) (best : ℤ) (journal : List Entry) (order : List ℕ)
-    (n : ℕ) (zb zv zbest : ℤ) (p : Option Pair) (seen : List ℕ) → n ≡ found.node → zb ≡ found.bound → zv ≡ found.value → zbest ≡ best → p ≡ found.pair → seen ≡ found.order
-    → nodes ≡ settled_nodes view.state.nodes n zb zbest p → best ≡ int_max view.state.best zv → journal ≡ view.journal ++ Report w n zb p zv true ∷ []
+    (n : ℕ) (zb zk zv zbest : ℤ) (p : Option Pair) (seen : List ℕ) (room : Bool) → n ≡ found.node → zb ≡ found.bound → zk ≡ kept_bound view found → zv ≡ found.value → zbest ≡ best → p ≡ found.pair → seen ≡ found.order → room ≡ has_room_for view found
+    → nodes ≡ settled_nodes view.state.nodes n zk zbest p → best ≡ int_max view.state.best zv → journal ≡ view.journal ++ Report w n zb p zv room ∷ []
     → order ≡ (if int_lt view.state.best zv then seen else view.order) → Leaves view w found nodes best journal order
-leaves_by view w found nodes best journal order n zb zv zbest p seen en eb ev ebest ep eo hn hb hj ho = record {
-  nodes_are = rw (en, eb, ebest, ep) at hn;
+leaves_by view w found nodes best journal order n zb zk zv zbest p seen room en eb ek ev ebest ep eo er hn hb hj ho = record {
+  nodes_are = rw (en, ek, ebest, ep) at hn;
   best_is = rw ev at hb;
-  journal_is = rw (en, eb, ep, ev) at hj;
+  journal_is = rw (en, eb, ep, ev, er) at hj;
   order_is = rw (ev, eo) at ho;
 }
+
+-- the bound that the code passes on
+pub kept_is : (view : CoreFields) (found : EvaluatedFields) (room : Bool) (b k : ℤ) (n : ℕ) (seen : SearchNode) → room ≡ has_room_for view found → b ≡ found.bound → k ≡ seen.bound → n ≡ found.node → seen ≡ get_or view.state.nodes n seen → n < length view.state.nodes
+    → (if room then b else k) ≡ kept_bound view found
+kept_is view found room b k n seen er eb ek en is lt =
+    let at : seen ≡ node_at view.state.nodes n = is ∙ get_or_default view.state.nodes n seen (child 0 no_pair (pos 0)) lt in
+    ap (λ (z : ℤ). if room then b else z) ek
+    ∙ ap (λ (r : Bool). if r then b else seen.bound) er
+    ∙ ap (λ (z : ℤ). if has_room_for view found then z else seen.bound) eb
+    ∙ ap (λ (m : SearchNode). if has_room_for view found then found.bound else m.bound) (at ∙ ap (node_at view.state.nodes) en)
+
+-- the answer on the room that the code passes on
+pub room_is : (view : CoreFields) (found : EvaluatedFields) (room : Bool) (places : ℕ) (shown : ScaledTerms) → room ≡ finds_room places view.book shown.terms → places ≡ term_room view.problem.budget → shown ≡ found.shown → room ≡ has_room_for view found
+room_is view found room places shown e ep es = e ∙ ap (λ k. finds_room k view.book shown.terms) ep ∙ ap (λ (r : ScaledTerms). finds_room (term_room view.problem.budget) view.book r.terms) es
+
+-- what was taken in, by the node and the record of the result
+pub taken_is : (old mid : RecordBook) (room room' : Bool) (node node' : ℕ) (shown shown' : ScaledTerms) → room ≡ room' → node ≡ node' → shown ≡ shown' → IsTakenOrKept room old node shown mid → IsTakenOrKept room' old node' shown' mid
+taken_is old mid room room' node node' shown shown' er en es taken = rw (er, en, es) at taken
+
+-- the facts of the book after the record was taken in or refused
+pub report_facts : (view : CoreFields) (found : EvaluatedFields) (mid : RecordBook) → HasHistory view → AreRecorded view → IsRecordBook view.book → found.node < length view.state.nodes → IsSoundReport view found → IsScaledTerms found.shown
+    → IsTakenOrKept (has_room_for view found) view.book found.node found.shown mid → TakenFacts view found.node (kept_bound view found) (room_count view.journal + (if has_room_for view found then 1 else 0)) mid
+report_facts view found mid h rec book inside sound few taken =
+    facts_of view rec book found.node inside found (room_count view.journal + (if has_room_for view found then 1 else 0)) mid (has_room_for view found) refl taken few.bounded_count sound.sound.cuts.fit (reported_certified view found sound)
+
+pub if_some : {X P : Type 0} (o : Option X) → P → IfSome o (λ _. P)
+if_some None p = tt
+if_some (Some x) p = p
+
+-- the laws of the records after a report
+pub report_laws : (view new : CoreFields) (w : ℕ) (found : EvaluatedFields) (best : ℤ) (mid : RecordBook) (split : Option ℕ) (nodes : List SearchNode) → HasHistory view → AreRecorded view → IsRecordBook view.book → IsOutTo view.state w found.node
+    → IsSoundReport view found → IsScaledTerms found.shown → IsTakenOrKept (has_room_for view found) view.book found.node found.shown mid → nodes ≡ settled_nodes view.state.nodes found.node (kept_bound view found) best found.pair
+    → GrownBook view.state.nodes mid found.node split nodes new.book → new.problem.weights ≡ view.problem.weights → new.state.nodes ≡ nodes → new.journal ≡ view.journal ++ entry_of view w found ∷ [] → AreRecorded new
+report_laws view new w found best mid split nodes h rec book out sound few taken settled grown ew en ej =
+    let inside : found.node < length view.state.nodes = slice_get_within view.state.nodes found.node out.0 out.1 in
+    report_recorded view found.node (kept_bound view found) best (room_count view.journal + (if has_room_for view found then 1 else 0)) mid new.book split found.pair nodes new rec
+    (report_facts view found mid h rec book inside sound few taken) inside (core_branching view h found.node inside) (reported_undecided view found sound) settled grown ew en refl
+    (rooms_after view.journal new.journal w found.node found.bound found.pair found.value (has_room_for view found) ej)
 
 module _ (view : CoreFields) (w : ℕ) (found : EvaluatedFields) (nodes : List SearchNode) (best : ℤ) (journal : List Entry) (order : List ℕ) (leaves : Leaves view w found nodes best journal order) where
   left_order : order ≡ better_of view found
   left_order = leaves.order_is
 
-  left_view : record view { state = record { nodes = nodes; best = best; evaluated = view.state.evaluated + 1 }; journal = journal; order = order } ≡ with_entry view (entry_of w found) (better_of view found)
+  left_view : record view { state = record { nodes = nodes; best = best; evaluated = view.state.evaluated + 1 }; journal = journal; order = order } ≡ with_entry view (entry_of view w found) (better_of view found)
   left_view = report_view view w found nodes best journal order leaves.nodes_are leaves.best_is leaves.journal_is leaves.order_is
 
-  pub left_noted : record view { state = record { nodes = nodes; best = best; evaluated = view.state.evaluated + 1 }; journal = journal; order = order } ≡ with_entry view (entry_of w found) order
-  left_noted = left_view ∙ ap (with_entry view (entry_of w found)) (sym left_order)
+  pub left_noted : (book : RecordBook) → record view { state = record { nodes = nodes; best = best; evaluated = view.state.evaluated + 1 }; journal = journal; order = order; book = book } ≡ record (with_entry view (entry_of view w found) order) { book = book }
+  left_noted book = ap (λ (v : CoreFields). record v { book = book }) (left_view ∙ ap (with_entry view (entry_of view w found)) (sym left_order))
 
   pub left_keeps : KeepsOrder view found order
   left_keeps = subst (KeepsOrder view found) (sym left_order) (kept_order view found)
 
-  pub left_true : HasHistory view → IsOutTo view.state w found.node → IsSoundReport view found
-      → HasHistory (record view { state = record { nodes = nodes; best = best; evaluated = view.state.evaluated + 1 }; journal = journal; order = order })
-  left_true h out sound = subst HasHistory (sym left_view) (core_report view w found h out sound)
+  pub left_true : (book : RecordBook) → HasHistory view → AreRecorded view → IsScaledTerms found.shown → IsOutTo view.state w found.node → IsSoundReport view found
+      → HasHistory (record view { state = record { nodes = nodes; best = best; evaluated = view.state.evaluated + 1 }; journal = journal; order = order; book = book })
+  left_true book h kept few out sound =
+      other_book (record view { state = record { nodes = nodes; best = best; evaluated = view.state.evaluated + 1 }; journal = journal; order = order }) book
+      (subst HasHistory (sym left_view) (core_report view w found h kept few out sound))
 
   -- one node fewer is out
-  pub left_outs : HasHistory view → IsOutTo view.state w found.node → IsSoundReport view found → out_count view.state.nodes ≡ out_count nodes + 1
-  left_outs h out sound =
+  pub left_outs : HasHistory view → AreRecorded view → IsScaledTerms found.shown → IsOutTo view.state w found.node → IsSoundReport view found → out_count view.state.nodes ≡ out_count nodes + 1
+  left_outs h kept few out sound =
       let before = core_counted view h in
-      let now = core_counted _ (left_true h out sound) in
+      let now = core_counted _ (left_true view.book h kept few out sound) in
       let grown : length journal ≡ length view.journal + 1 = ap length leaves.journal_is ∙ length_push view.journal _ in
       omega (arith, before.entries, now.entries)
-
--- each node's record certifies its bound after a take and after a report
-pub take_certified : (core : CoreFields) (w i : ℕ) → AreCertified core.problem.weights core.state.nodes → i < length core.state.nodes
-    → AreCertified core.problem.weights (changed core.state.nodes i (node_at core.state.nodes i).bound (Out w))
-take_certified core w i all lt = certified_changed core.problem.weights core.state.nodes i (node_at core.state.nodes i).bound (Out w) all lt (all i lt)
-
-pub report_certified : (core : CoreFields) (w : ℕ) (found : EvaluatedFields) (best : ℤ) → HasHistory core → AreCertified core.problem.weights core.state.nodes → IsOutTo core.state w found.node → IsSoundReport core found
-    → AreCertified core.problem.weights (settled_nodes core.state.nodes found.node found.bound best found.pair)
-report_certified core w found best h all out r =
-    let lt : found.node < length core.state.nodes = slice_get_within core.state.nodes found.node out.0 out.1 in
-    certified_settled core.problem.weights core.state.nodes found.node found.bound best all lt (core_branching core h found.node lt) (reported_certified core found r) found.pair (reported_undecided core found r)
 
 -- the laws of a core
 pub core_covered : (core : CoreFields) → HasHistory core → (s : List ℕ) → IsOrder core.problem.weights.size s → IsCoveredOnce core.state.nodes s
@@ -290,13 +338,16 @@ prepared_true problem order o w = record {
 }
 
 -- what a core that was just made keeps
-pub made : (C C0 : Matrix) (budget : ℕ) (start : ℤ) (nodes : List SearchNode) (journal : List Entry) (order order0 : List ℕ) → C ≡ C0 → start ≡ weight C0 order0 → IsOrder C0.size order0
-    → nodes ≡ child 0 no_pair (pair_bound C0 []) ∷ [] → journal ≡ [] → order ≡ order0
-    → HasHistory (record { problem = record { weights = C; start = start; budget = budget }; state = record { nodes = nodes; best = start; evaluated = 0 }; journal = journal; order = order })
-    × AreCertified C nodes × (0 ≡ out_count nodes)
-made C C0 budget start nodes journal order order0 eC es o en ej eo =
-    let problem : Problem = record { weights = C0; start = start; budget = budget } in
-    rw (en, ej, eo, eC) (prepared_true (record { weights = C0; start = start; budget = budget }) order0 o (sym es), certified_root C0, refl)
+pub made : (C C0 : Matrix) (budget : ℕ) (start : ℤ) (nodes : List SearchNode) (journal : List Entry) (order order0 : List ℕ) (book : RecordBook) → C ≡ C0 → start ≡ weight C0 order0 → IsOrder C0.size order0
+    → nodes ≡ child 0 no_pair (pair_bound C0 []) ∷ [] → journal ≡ [] → order ≡ order0 → book ≡ root_book
+    → HasHistory (record { problem = record { weights = C; start = start; budget = budget }; state = record { nodes = nodes; best = start; evaluated = 0 }; journal = journal; order = order; book = book })
+    × AreRecorded (record { problem = record { weights = C; start = start; budget = budget }; state = record { nodes = nodes; best = start; evaluated = 0 }; journal = journal; order = order; book = book }) × (0 ≡ out_count nodes)
+made C C0 budget start nodes journal order order0 book eC es o en ej eo ek =
+    rw (en, ej, eo, eC, ek) (
+      prepared_true (record { weights = C0; start = start; budget = budget }) order0 o (sym es),
+      record { same_length = refl; certified = certified_root C0; fit = λ k d lt. absurd (omega arith); terms = omega arith; cuts = omega arith },
+      refl,
+    )
 
 -- the number of nodes, of which no more than twice the budget came after the root
 pub core_nodes : (core : CoreFields) → HasHistory core → length core.state.nodes ≤ 2 * core.problem.budget + 1
@@ -312,7 +363,7 @@ first_in s k seen best e b first = subst (λ (ns : List SearchNode). IsFirstRead
 
 -- what was written into the ticket is the node's ticket
 pub ticket_is : (core : CoreFields) (i size : ℕ) (seen : List SearchNode) (best : ℤ) (inherited : ScaledTerms) (ticket : TicketFields)
-    → seen ≡ core.state.nodes → size ≡ core.problem.weights.size → best ≡ core.state.best → inherited ≡ no_terms
+    → seen ≡ core.state.nodes → size ≡ core.problem.weights.size → best ≡ core.state.best → inherited ≡ scaled_of core.book.cuts (record_at core.book.records i)
     → ticket ≡ record { size = size; node = i; bound = (node_at seen i).bound; best = best; path = path_of seen i; inherited = inherited } → ticket ≡ ticket_of core i
 ticket_is core i size seen best inherited ticket en es eb ei e = rw (en, es, eb, ei) at e
 
@@ -337,11 +388,11 @@ module _ (core : CoreFields) (w i : ℕ) (lt : i < length core.state.nodes) wher
   taken_out = rw (take_nodes core.state w i) (record (node_at core.state.nodes i) { standing = Out w }, taken_there, refl)
 
 -- what a take promises of its ticket
-pub take_on_node : (core new : CoreFields) (w i : ℕ) (ticket : TicketFields) → HasHistory core → AreCertified core.problem.weights core.state.nodes → i < length core.state.nodes
+pub take_on_node : (core new : CoreFields) (w i : ℕ) (ticket : TicketFields) → HasHistory core → AreRecorded core → IsRecordBook core.book → i < length core.state.nodes
     → new ≡ with_entry core (Take w i) core.order → ticket ≡ ticket_of core i → IsFirstReady core.state.nodes core.state.best i → IsHandedOut core w new ticket
-take_on_node core new w i ticket h all lt en e first =
+take_on_node core new w i ticket h kept book lt en e first =
     let own : IsHandedOut core w (with_entry core (Take w i) core.order) (ticket_of core i) = record {
-      sound = record { same_size = refl; branching = core_branching core h i lt; certified = all i lt };
+      sound = record { same_size = refl; branching = core_branching core h i lt; cuts = cuts_below core i kept book lt; certified = kept.certified i lt };
       is_of = taken_ticket core w i lt;
       is_out = taken_out core w i lt;
       first = first;

@@ -12,7 +12,7 @@ use Rattle.lop_core.specs.declared.node.Standing.{Standing}
 use Rattle.lop_core.specs.declared.node.Standing.TheVariants.{Idle, Out, Split}
 use Rattle.lop_core.specs.Tree.{node_at, is_split, is_out, split_count, out_count}
 use Rattle.lop_core.specs.Machine.{Problem, SearchState, changed, after, settled, closed, divided}
-use Rattle.lop_core.specs.Journal.{AreCounted, replay, is_report, MayTake, MayReport, MayFollow, IsLawfulJournal}
+use Rattle.lop_core.specs.Journal.{AreCounted, replay, is_report, room_count, MayTake, MayReport, MayFollow, IsLawfulJournal}
 use Rattle.lop_core.proofs.Sound.{count_changed, one_if}
 use Rattle.lop_core.proofs.Replay.{replay_push}
 
@@ -90,7 +90,7 @@ counted_settled problem s journal e n w m kept best pair c is there was = go pai
   go (Some p) = by_test (int_lt best kept) p
 
 counted_report : (problem : Problem) (journal : List Entry) (w n : ℕ) (bound : ℤ) (pair : Option Pair) (value : ℤ) (room : Bool)
-    → AreCounted problem (replay problem journal) journal → MayReport problem (replay problem journal) w n bound pair value room
+    → AreCounted problem (replay problem journal) journal → MayReport problem (replay problem journal) (room_count journal) w n bound pair value room
     → AreCounted problem (after (replay problem journal) (Report w n bound pair value room)) (journal ++ Report w n bound pair value room ∷ [])
 unfolding after
 counted_report problem journal w n bound pair value room c may =

@@ -18,7 +18,7 @@ use Rattle.lop_core.specs.declared.node.Standing.{Standing}
 use Rattle.lop_core.specs.declared.node.Standing.TheVariants.{Idle, Out, Split}
 use Rattle.lop_core.specs.Tree.{reversed, child, node_at, is_out, path_of}
 use Rattle.lop_core.specs.Machine.{Problem, SearchState, root_state, changed, after, settled, closed, divided, IsOutTo}
-use Rattle.lop_core.specs.Journal.{replay, entries_of, is_of, takes, reports, HasTake, HasReport, MayTake, MayReport, MayFollow, IsLawfulJournal}
+use Rattle.lop_core.specs.Journal.{replay, room_count, entries_of, is_of, takes, reports, HasTake, HasReport, MayTake, MayReport, MayFollow, IsLawfulJournal}
 use Rattle.lop_core.proofs.Replay.{replay_push}
 
 -- `Any` of the elements that pass a test, with one element more
@@ -192,18 +192,18 @@ reported_fate s t journal w n bound pair value room out d (done e a) =
     cc
 
 -- the report's effect
-report_effect : (problem : Problem) (journal : List Entry) (w n : ℕ) (bound : ℤ) (pair : Option Pair) (value : ℤ) (room : Bool) → MayReport problem (replay problem journal) w n bound pair value room
+report_effect : (problem : Problem) (journal : List Entry) (w n : ℕ) (bound : ℤ) (pair : Option Pair) (value : ℤ) (room : Bool) → MayReport problem (replay problem journal) (room_count journal) w n bound pair value room
     → Effect (replay problem journal).nodes (after (replay problem journal) (Report w n bound pair value room)).nodes (replay problem journal).best (after (replay problem journal) (Report w n bound pair value room)).best n
     × IsDone (after (replay problem journal) (Report w n bound pair value room)).nodes (after (replay problem journal) (Report w n bound pair value room)).best n
 unfolding after
 report_effect problem journal w n bound pair value room may =
     settled_effect (replay problem journal) n may.is_out.0 (if room then bound else (node_at (replay problem journal).nodes n).bound) (int_max (replay problem journal).best value) pair may.is_out.1
-    (le_max (replay problem journal).best value) (low pair may.all_decided)
+    (le_max (replay problem journal).best value) (low pair may.all_decided may.decided_room)
   where
     low : (p : Option Pair) → IfNone p (AreAllDecided problem.weights.size (path_of (replay problem journal).nodes n) × (value ≡ bound))
-        → IfNone p ((if room then bound else (node_at (replay problem journal).nodes n).bound) ≤ℤ int_max (replay problem journal).best value)
-    low None h = rw may.with_room (subst (λ (b : ℤ). b ≤ℤ int_max (replay problem journal).best value) h.1 (omega (arith, ints, clamps)))
-    low (Some p) h = h
+        → IfNone p (room ≡ true) → IfNone p ((if room then bound else (node_at (replay problem journal).nodes n).bound) ≤ℤ int_max (replay problem journal).best value)
+    low None h k = rw k (subst (λ (b : ℤ). b ≤ℤ int_max (replay problem journal).best value) h.1 (omega (arith, ints, clamps)))
+    low (Some p) h k = h
 
 take_effect : (problem : Problem) (s : SearchState) (w n : ℕ) → MayTake problem s n → Effect s.nodes (after s (Take w n)).nodes s.best (after s (Take w n)).best n
 unfolding after

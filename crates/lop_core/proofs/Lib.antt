@@ -1,4 +1,6 @@
 pub mod Lists
+pub mod CutIndexLemmas
+pub mod RecordLemmas
 pub mod ExtensionLemmas
 pub mod TreeLemmas
 pub mod Sound
@@ -7,7 +9,9 @@ pub mod Fates
 pub mod Counts
 pub mod Linked
 pub mod Scans
+pub mod PackedLemmas
 pub mod Certified
+pub mod BookLemmas
 pub mod PathRoom
 pub mod CoreLemmas
 pub mod Extensions

@@ -18,7 +18,7 @@ use Rattle.lop_core.specs.declared.journal.Entry.TheVariants.{Take, Report}
 use Rattle.lop_core.specs.declared.node.Standing.TheVariants.{Idle, Out}
 use Rattle.lop_core.specs.Tree.{no_pair, child, node_at, paths, path_of, is_split, IsOpen, IsCoveredOnce, split_count}
 use Rattle.lop_core.specs.Machine.{Problem, SearchState, root_state, after, settled, closed, divided, raised_by, state_bound}
-use Rattle.lop_core.specs.Journal.{IsPathBound, IsAttained, replay, MayTake, MayReport, MayFollow, IsLawfulJournal}
+use Rattle.lop_core.specs.Journal.{IsPathBound, IsAttained, replay, room_count, MayTake, MayReport, MayFollow, IsLawfulJournal}
 use Rattle.lop_core.proofs.Sound.{IsSound, sound_changed, sound_divided}
 
 abbrev pub SoundState : Problem → SearchState → Type 0
@@ -85,7 +85,7 @@ sound_settled problem s node m sound there was kept best holds reached (Some p) 
   go false = sound_changed problem s.nodes s.best sound node m there was kept holds Idle refl best reached
 
 pub sound_report : (problem : Problem) (journal : List Entry) (worker node : ℕ) (bound : ℤ) (pair : Option Pair) (value : ℤ) (room : Bool)
-    → SoundState problem (replay problem journal) → MayReport problem (replay problem journal) worker node bound pair value room
+    → SoundState problem (replay problem journal) → MayReport problem (replay problem journal) (room_count journal) worker node bound pair value room
     → SoundState problem (after (replay problem journal) (Report worker node bound pair value room))
 unfolding after
 sound_report problem journal worker node bound pair value room sound may =

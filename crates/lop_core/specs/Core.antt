@@ -1,5 +1,5 @@
 -- What contracts see of a core, what is true of it, and its steps.
-use Rattle.std.specs.Prelude.{◌≡◌, ℕ, ◌+◌, ◌*◌, ◌<◌, ◌≤◌, ◌<ℤ◌, ◌≤ℤ◌, List, [], ◌∷◌, ◌++◌, length, All, Bool, true}
+use Rattle.std.specs.Prelude.{◌≡◌, ℕ, ◌+◌, ◌*◌, ◌<◌, ◌≤◌, ◌<ℤ◌, ◌≤ℤ◌, List, [], ◌∷◌, ◌++◌, length, All, Bool}
 use Rattle.lop_model.specs.Order.{IsOrder}
 use Rattle.lop_model.specs.Matrix.{Matrix, weight}
 use Rattle.lop_cuts.specs.Kind.{FitsCut}

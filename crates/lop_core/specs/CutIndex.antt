@@ -7,7 +7,7 @@ use Rattle.lop_cuts.specs.contracts.kind.CutKindOrd.TheImpl.{ghosts as of_kind}
 use Rattle.lop_core.specs.Records.{cut_at}
 
 -- the order of cuts
-abbrev pub cut_order : CutKind → CutKind → Ordering
+unfoldable pub cut_order : CutKind → CutKind → Ordering
 cut_order a b = of_kind.cmp a b
 
 -- the numbers of all cuts, each cut before those that are greater

@@ -1,5 +1,5 @@
 -- How the records lie in their rooms.
-use Rattle.std.specs.Prelude.{◌≡◌, ℕ, ◌+◌, ◌≤◌, List, length, map, take, drop, All}
+use Rattle.std.specs.Prelude.{◌+◌, ◌≤◌, List, length, map, take, drop, All}
 use Rattle.std.specs.Vec.{vec_capacity}
 use Rattle.lop_core.specs.declared.records.NumberedTerm.{NumberedTerm}
 use Rattle.lop_core.specs.declared.records.Span.{Span}

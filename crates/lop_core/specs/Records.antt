@@ -1,5 +1,5 @@
 -- The records of the nodes: terms by the numbers of their cuts, which stand in one list.
-use Rattle.std.specs.Prelude.{◌≡◌, ◌≢◌, ℕ, ◌+◌, ◌*◌, ◌<◌, ◌≤◌, List, [], ◌∷◌, ◌++◌, length, map, filter, count_by, slice_index_or, slice_set, All, AllPairs, Bool, true, false, not, nat_le, ◌==◌, ◌&&◌, ◌||◌, min, IsPermutation}
+use Rattle.std.specs.Prelude.{◌≡◌, ◌≢◌, ℕ, ◌+◌, ◌*◌, ◌<◌, ◌≤◌, List, [], ◌∷◌, ◌++◌, length, map, filter, slice_index_or, slice_set, All, AllPairs, Bool, true, false, not, nat_le, ◌==◌, ◌&&◌, ◌||◌, min, IsPermutation}
 use Rattle.std.specs.List.{list_any}
 use Rattle.lop_cuts.specs.declared.kind.CutKind.{CutKind}
 use Rattle.lop_cuts.specs.declared.kind.CutKind.TheVariants.{Dicycle}
@@ -51,7 +51,7 @@ pub record IsNodeRecord (count : ℕ) (r : NodeRecord) : Type 0 where
 
 -- the cuts of the list are cuts and all differ
 pub record AreDifferentCuts (cuts : List CutKind) : Type 0 where
-  pub cuts : All IsCut cuts
+  pub each : All IsCut cuts
   pub different : AllPairs (λ a b. a ≢ b) cuts
 
 -- each record is one, over the list of cuts
@@ -59,9 +59,13 @@ pub record IsRecordBook (book : RecordBook) : Type 0 where
   pub cuts : AreDifferentCuts book.cuts
   pub each : All (IsNodeRecord (length book.cuts)) book.records
 
+-- whether two cuts are the same
+unfoldable pub same_cut : CutKind → CutKind → Bool
+same_cut a b = of_kind.eq a b
+
 -- whether the cut isn't in the list
 abbrev pub is_new : List CutKind → CutKind → Bool
-is_new cuts cut = not (list_any (λ c. of_kind.eq c cut) cuts)
+is_new cuts cut = not (list_any (λ c. same_cut c cut) cuts)
 
 -- the cuts of the terms that aren't in the list, in turn
 abbrev pub new_cuts : List CutKind → List Term → List CutKind

@@ -17,6 +17,6 @@ mod tests;
 
 pub use journal::Entry;
 pub use node::{NodeView, SearchNode, Standing};
-pub use records::{NumberedTerm, Span, Records};
+pub use records::{NumberedTerm, Records, Span};
 pub use reply::{ReportReply, TakeReply};
 pub use search::Core;

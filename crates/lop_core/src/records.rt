@@ -1,6 +1,7 @@
 // The records of the nodes, in rooms that are made once.
-ghost use Rattle.std.specs.Prelude.{◌≡◌, ◌+◌, ◌*◌, ◌<◌, ◌≤◌, [], ◌∷◌, ◌++◌, length, true, All, IfOk, IfSome, IfNone, vec_len, vec_capacity, min};
-ghost use Rattle.lop_core.specs.Records.{IsTakenIn, IsTakenOrKept, empty_record, finds_room, new_cuts, record_at, scaled_of, term_room as term_room_of, terms_of, with_children};
+ghost use Rattle.std.specs.Prelude.{◌≡◌, ◌+◌, ◌*◌, ◌<◌, ◌≤◌, [], ◌∷◌, ◌++◌, length, true, All, AllPairs, IfOk, IfSome, IfNone, vec_len, vec_capacity, min};
+ghost use Rattle.lop_core.specs.Records.{AreDifferentCuts, IsTakenIn, IsTakenOrKept, empty_record, finds_room, new_cuts, record_at, scaled_of, term_room as term_room_of, terms_of, with_children};
+ghost use Rattle.lop_leaf.specs.Record.{IsMultiplier, IsScaledTerms};
 ghost use Rattle.lop_core.specs.Kept.{AreKept, book_of};
 
 use crate::cut_index::{CUT_ROOM, CutIndex};
@@ -44,7 +45,8 @@ fn term_room(budget: u32) -> usize
 
 /// How many cuts of the record aren't in the list. O(terms, each with the log of the number of cuts).
 fn new_count(cuts: &CutIndex, shown: &LeafRecord) -> usize
-    ensures { result ≡ length (new_cuts cuts.now shown.now.terms) }
+    ensures value { result ≡ length (new_cuts cuts.now shown.now.terms) }
+    ensures at_most { result ≤ 4096 }
 {
     let mut count = 0;
     for index in 0..shown.len() {
@@ -62,6 +64,8 @@ fn number_terms(cuts: &mut CutIndex, shown: &LeafRecord, fresh: &mut Vec<Numbere
     ensures cuts { cuts.new ≡ cuts.old ++ new_cuts cuts.old shown.now.terms }
     ensures terms { terms_of cuts.new fresh.new.items ≡ shown.now.terms }
     ensures listed { All (λ t. t.cut < length cuts.new) fresh.new.items }
+    ensures different { AreDifferentCuts cuts.new }
+    ensures few { length cuts.new ≤ 65536 }
     ensures for_terms { vec_capacity fresh.old ≤ vec_capacity fresh.new }
 {
     fresh.clear();
@@ -76,6 +80,7 @@ fn number_terms(cuts: &mut CutIndex, shown: &LeafRecord, fresh: &mut Vec<Numbere
             },
         );
     }
+    let _count = cuts.len();
 }
 
 /// Puts the terms at the end of the room. O(terms).
@@ -86,6 +91,22 @@ fn append_terms(room: &mut Vec<NumberedTerm>, terms: &[NumberedTerm])
 {
     for term in terms {
         put_last(room, *term);
+    }
+}
+
+/// Puts terms with their cuts at the end of a record. O(terms).
+fn read_terms(cuts: &CutIndex, terms: &[NumberedTerm], into: &mut LeafRecord)
+    requires rising { AllPairs (λ t u. t.cut < u.cut) terms.now }
+    requires listed { All (λ t. t.cut < length cuts.now) terms.now }
+    requires multipliers { All (λ t. IsMultiplier t.multiplier) terms.now }
+    requires bounded_count { length terms.now ≤ 4096 }
+    requires empty { into.old.terms ≡ [] }
+    ensures scale { into.new.scale ≡ into.old.scale }
+    ensures terms { into.new.terms ≡ terms_of cuts.now terms.now }
+{
+    let _count = cuts.len();
+    for term in terms {
+        into.put(cuts.get(term.cut).copy(), term.multiplier);
     }
 }
 
@@ -121,7 +142,8 @@ impl Records {
     /// Whether a record finds room.
     fn finds_room(&self, shown: &LeafRecord) -> bool
         requires { AreKept self.now }
-        ensures { result ≡ finds_room self.now.term_room (book_of self.now) shown.now.terms }
+        ensures room { result ≡ finds_room self.now.term_room (book_of self.now) shown.now.terms }
+        ensures shown { IsScaledTerms shown.now }
     {
         shown.len() == 0
             || (self.terms.len() + shown.len() <= self.term_room
@@ -155,6 +177,7 @@ impl Records {
         requires kept { AreKept self.old }
         requires inside { node < vec_len self.old.spans }
         ensures room { result ≡ finds_room self.old.term_room (book_of self.old) shown.now.terms }
+        ensures shown { IsScaledTerms shown.now }
         ensures taken { IsTakenOrKept result (book_of self.old) node shown.now (book_of self.new) }
         ensures kept { AreKept self.new }
         ensures term_room { self.new.term_room ≡ self.old.term_room }
@@ -192,11 +215,13 @@ impl Records {
         ensures { into.new ≡ scaled_of (book_of self.now).cuts (record_at (book_of self.now).records node) }
     {
         let span = self.spans[node];
+        let first = span.first as usize;
         into.clear();
         into.set_scale(span.scale);
-        for index in span.first..span.first + span.count {
-            let term = self.terms[index as usize];
-            into.put(self.cuts.get(term.cut).copy(), term.multiplier);
-        }
+        read_terms(
+            &self.cuts,
+            &self.terms[first..first + span.count as usize],
+            into,
+        );
     }
 }

@@ -23,10 +23,11 @@ use crate::reply::{ReportReply, TakeReply};
 use crate::room::put_last;
 use crate::scan::{best_ready, count_live, count_ready, first_live, greatest_bound};
 use crate::settle::{child, either, is_out_to, keep_better, settle};
-use crate::start::{order_weight, root_bound};
+use crate::start::root_bound;
 use lop_cuts::Cut;
 use lop_leaf::{Evaluated, LeafRecord, Ticket};
 use lop_model::{Order, Pair, Weights};
+use lop_value::value;
 use std::alloc::{AllocError, Global};
 use std::marker::Model;
 
@@ -96,7 +97,7 @@ impl Core {
         ensures { IfOk result (λ core. core ≡ prepared (record { weights = weights.now; start = weight weights.now order.now; budget = budget }) order.now) }
     {
         let n = order.n();
-        let best = order_weight(weights, order);
+        let best = value(weights, order);
         let bound = root_bound(alloc, weights)?;
         let places = 2 * budget as usize;
         let mut nodes = Vec::with_capacity(alloc, places + 1)?;

@@ -1,73 +1,46 @@
 ghost use Rattle.std.specs.Prelude.{◌≡◌, IsTrue, length};
-ghost use Rattle.lop_model.specs.Order.{IsOrder, StandsBefore};
-ghost use Rattle.lop_model.specs.Fixings.{IsLinearExtension};
-ghost use Rattle.lop_leaf.specs.Record.{no_terms};
+ghost use Rattle.lop_model.specs.Order.{IsOrder};
 ghost use Rattle.lop_leaf.specs.Sound.{IsSoundTicket, IsSoundResult};
 
-use crate::start::order_weight;
 use crate::{Core, Entry, NodeView, ReportReply, Standing, TakeReply};
+use lop_cuts::CutKind;
 use lop_fix::Fixings;
-use lop_leaf::{Evaluated, LeafRecord, PairRoom, Ticket, upper};
+use lop_leaf::{Evaluated, LeafRecord, PairRoom, Ticket, packing};
 use lop_model::{Order, Pair, Weights};
+use lop_value::value;
 use std::alloc::Global;
 use std::test::Fail;
 
-// Whether the first object of the pair stands before the second.
-fn stands_before(order: &Order, pair: Pair) -> bool
-    ensures { IsTrue result → StandsBefore order.now pair.before pair.after }
-{
-    let n = order.n();
-    for q in 0..n {
-        for p in 0..q {
-            if order.at(p) == pair.before && order.at(q) == pair.after {
-                return true;
-            }
-        }
-    }
-    false
-}
-
-// Whether the order keeps each pair of the path.
-fn extends(order: &Order, path: &[Pair]) -> bool
-    ensures { IsTrue result → IsLinearExtension order.now path.now }
-{
-    for pair in path {
-        if !stands_before(order, *pair) {
-            return false;
-        }
-    }
-    true
-}
-
-// A small judge: the pair bound under the path, the first undecided pair, and the order that is handed in. It answers
-// false where this order doesn't extend the path.
+// A small judge: the packing bound under the path with the record that shows it, the first undecided pair, and the
+// order that is handed in. It answers false where no pair is undecided, or the bound exceeds the ticket's.
 fn judge(
     weights: &Weights,
     ticket: &Ticket,
     order: &Order,
     fixings: &mut Fixings,
     room: &mut PairRoom,
-    shown: &LeafRecord,
+    shown: &mut LeafRecord,
     into: &mut Evaluated,
 ) -> bool
     requires ticket { IsSoundTicket weights.now ticket.now }
     requires order { IsOrder weights.now.size order.now }
     requires fixings { fixings.old.size ≡ weights.now.size }
     requires room { room.old ≡ weights.now.size }
-    requires shown { shown.now ≡ no_terms }
     requires into { length into.old.order ≡ weights.now.size }
     ensures { IsTrue result → IsSoundResult weights.now ticket.now into.new }
 {
     let Ok(()) = fixings.of_path(ticket.path()) else {
         return false;
     };
-    if !extends(order, ticket.path()) {
+    let Some(pair) = fixings.first_undecided() else {
+        return false;
+    };
+    let bound = packing(weights, fixings, shown, room);
+    if bound > ticket.bound() {
         return false;
     }
-    let bound = upper(weights, fixings, shown, room);
-    let pair = fixings.first_undecided();
-    let value = order_weight(weights, order);
-    into.put(ticket.node(), bound, pair, shown, order, value);
+    let weight = value(weights, order);
+    into.put(ticket.node(), bound, Some(pair), shown, order, weight);
     true
 }
 
@@ -82,7 +55,7 @@ fn evaluate(
     let mut ticket = Ticket::new(alloc, n)?;
     let mut fixings = Fixings::new(alloc, n)?;
     let mut room = PairRoom::new(alloc, n)?;
-    let shown = LeafRecord::new(alloc)?;
+    let mut shown = LeafRecord::new(alloc)?;
     let mut into = Evaluated::new(alloc, n)?;
     if order.n() != n {
         return Ok(None);
@@ -96,7 +69,7 @@ fn evaluate(
         order,
         &mut fixings,
         &mut room,
-        &shown,
+        &mut shown,
         &mut into,
     ) {
         return Ok(None);
@@ -123,28 +96,63 @@ fn three_sectors(alloc: Global, budget: u32) -> Result<Option<Core>, Fail> {
     }
 }
 
-fn order_of(alloc: Global, objects: [u16; 3]) -> Result<Option<Order>, Fail> {
-    Ok(Order::of_list(objects.to_vec(alloc)?, 3).ok())
+// A three-fence with weight 2 on each of its nine arcs, and an order of weight 14.
+fn three_fence(alloc: Global, budget: u32) -> Result<Option<(Core, Order)>, Fail> {
+    let entries: [i64; 36] = [
+        0, 0, 0, 2, 0, 0, //
+        0, 0, 0, 0, 2, 0, //
+        0, 0, 0, 0, 0, 2, //
+        0, 2, 2, 0, 0, 0, //
+        2, 0, 2, 0, 0, 0, //
+        2, 2, 0, 0, 0, 0, //
+    ];
+    let objects: [u16; 6] = [3, 4, 2, 5, 0, 1];
+    let Ok(order) = Order::of_list(objects.to_vec(alloc)?, 6) else {
+        return Ok(None);
+    };
+    match Weights::new(6, entries.to_vec(alloc)?) {
+        Ok(weights) if order.n() == weights.n() && budget >= 1 && budget <= 1_000_000 => {
+            Ok(Some((Core::prepare(alloc, &weights, &order, budget)?, order)))
+        }
+        _ => Ok(None),
+    }
 }
 
-// With a budget of three nodes the bound stays at 12, and a live node is left.
+// One packing step closes the search of three sectors.
+#[test]
+fn a_closed_search(rt: HostRuntime) -> Result<(), Fail> {
+    let alloc = rt.alloc();
+    let mut core = three_sectors(alloc, 3)?.expect(&rt, "core");
+    let order = Order::first(alloc, 3)?;
+    assert_eq!(rt;
+        evaluate(alloc, &mut core, 0, &order)?,
+        Some((0, ReportReply::Closed))
+    );
+    assert_eq!(rt; take(alloc, &mut core, 0)?, TakeReply::Done);
+    assert_eq!(rt;
+        (core.best(), core.bound(), core.evaluated(), core.cuts()),
+        (10, 10, 1, 1)
+    );
+    Ok(())
+}
+
+// The root of a three-fence has nothing to pack. It is split on objects 0 and 1, and one step takes 2 in each child.
 #[test]
 fn a_spent_search(rt: HostRuntime) -> Result<(), Fail> {
     let alloc = rt.alloc();
-    let mut core = three_sectors(alloc, 3)?.expect(&rt, "core");
-    let second = order_of(alloc, [1, 0, 2])?.expect(&rt, "order");
-    let last = order_of(alloc, [2, 0, 1])?.expect(&rt, "order");
+    let (mut core, order) = three_fence(alloc, 3)?.expect(&rt, "core");
     assert_eq!(rt;
-        evaluate(alloc, &mut core, 0, &last)?,
+        evaluate(alloc, &mut core, 0, &order)?,
         Some((0, ReportReply::Split(1)))
     );
+    assert_eq!(rt; (core.bound(), core.cuts()), (18, 0));
     assert_eq!(rt;
-        evaluate(alloc, &mut core, 0, &last)?,
+        evaluate(alloc, &mut core, 1, &order)?,
         Some((1, ReportReply::Split(3)))
     );
     assert_eq!(rt;
-        evaluate(alloc, &mut core, 0, &second)?,
-        Some((2, ReportReply::Closed))
+        evaluate(alloc, &mut core, 2, &order)?,
+        Some((2, ReportReply::Split(5)))
     );
     assert_eq!(rt; take(alloc, &mut core, 0)?, TakeReply::Spent);
     assert_eq!(rt;
@@ -154,8 +162,32 @@ fn a_spent_search(rt: HostRuntime) -> Result<(), Fail> {
             core.evaluated(),
             core.idle_live()
         ),
-        (10, 12, 3, 2)
+        (14, 16, 3, 4)
     );
+    Ok(())
+}
+
+// What the readers say of the record of the first child of that root, which its own first child has too.
+#[test]
+fn a_record_of_one_dicycle(rt: HostRuntime) -> Result<(), Fail> {
+    let alloc = rt.alloc();
+    let (mut core, order) = three_fence(alloc, 3)?.expect(&rt, "core");
+    let _root = evaluate(alloc, &mut core, 0, &order)?;
+    let _child = evaluate(alloc, &mut core, 0, &order)?;
+    assert_eq!(rt; (core.nodes(), core.cuts()), (5, 1));
+    if core.nodes() == 5 && core.cuts() == 1 {
+        let cut = core.cut(0);
+        assert!(rt; *cut.kind() == CutKind::Dicycle([0, 1, 4]));
+        let (child, grandchild) = (core.node(1), core.node(3));
+        assert_eq!(rt; (child.bound, child.scale, child.terms), (16, 1, 1));
+        assert_eq!(rt;
+            (grandchild.bound, grandchild.scale, grandchild.terms),
+            (16, 1, 1)
+        );
+        if child.terms == 1 {
+            assert_eq!(rt; core.term(1, 0), (0, 2));
+        }
+    }
     Ok(())
 }
 
@@ -179,7 +211,7 @@ fn a_root_that_is_out(rt: HostRuntime) -> Result<(), Fail> {
         [Entry::Take { worker: 4, node: 0 }].as_slice()
     );
     assert_eq!(rt; (core.nodes(), core.live(), core.budget()), (1, 1, 3));
-    assert_eq!(rt; order_weight(core.weights(), core.best_order()), 10);
+    assert_eq!(rt; value(core.weights(), core.best_order()), 10);
     if core.nodes() > 0 {
         let root = NodeView {
             parent: 0,

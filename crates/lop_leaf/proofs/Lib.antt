@@ -6,3 +6,4 @@ pub mod PackingValue
 pub mod FallLemmas
 pub mod QuotientLemmas
 pub mod PathLemmas
+pub mod ClosureUnique

@@ -1,5 +1,5 @@
 -- The steps of packing, over a table of margins.
-use Rattle.std.proofs.Common.{◌≡◌, ◌≢◌, ◌⊎◌, ℕ, suc, ◌+◌, ◌-◌, ◌*◌, ◌^◌, ◌<◌, ◌≤◌, min, Bool, true, false, cond, eqb, ◌&&◌, ◌||◌, List, [], ◌∷◌, ◌++◌, length, get_or, set, refl, sym, ◌∙◌, ap, subst, inl, inr, ℤ, pos, negsuc, neg_ℤ, ◌+ℤ◌, ◌-ℤ◌, ◌*ℤ◌, ◌≤ℤ◌, ◌<ℤ◌, arith}
+use Rattle.std.proofs.Common.{◌≡◌, Option, Some, None, ◌≢◌, ◌⊎◌, ℕ, suc, ◌+◌, ◌-◌, ◌*◌, ◌^◌, ◌<◌, ◌≤◌, min, Bool, true, false, cond, eqb, ◌&&◌, ◌||◌, List, [], ◌∷◌, ◌++◌, length, get_or, set, refl, sym, ◌∙◌, ap, subst, inl, inr, ℤ, pos, negsuc, neg_ℤ, ◌+ℤ◌, ◌-ℤ◌, ◌*ℤ◌, ◌≤ℤ◌, ◌<ℤ◌, arith}
 use Rattle.std.specs.Prelude.{unsigned_abs}
 use Rattle.std.proofs.Math.IntN.{suc_ℤ-*ℤ, zero-*ℤ}
 use Rattle.std.proofs.lemmas.Int.{ints}
@@ -17,7 +17,7 @@ use Rattle.lop_cuts.specs.declared.kind.CutKind.TheVariants.{Dicycle}
 use Rattle.lop_cuts.specs.Lagrangian.{Term, reduced_entry}
 use Rattle.lop_fix.specs.PartialOrder.{FixedPairs, IsPartialOrder}
 use Rattle.lop_leaf.specs.Record.{ScaledTerms}
-use Rattle.lop_leaf.specs.Packing.{positive_part, margin, cycle_margin, dicycle, in_turn}
+use Rattle.lop_leaf.specs.Packing.{positive_part, margin, lesser, margin_number, cycle_margin, IsExhausted, dicycle, in_turn}
 use Rattle.lop_leaf.specs.Table.{cell, IsMarginWord, lowered, HasMargins, IsSpent, IsPacking, AreThree}
 use Rattle.lop_leaf.proofs.CellLemmas.{read-set}
 use Rattle.lop_leaf.proofs.ChargeLemmas.{entries_within}
@@ -159,14 +159,12 @@ spent_step n t u a b c m cut each is =
       b = is.b;
       c = is.c;
       is = is.is;
-      first = is.first;
-      second = is.second;
-      third = is.third;
+      three = is.three;
       none_left = elim is.none_left [
-        | inl e ↦ inl (stays is.a is.b is.second e)
+        | inl e ↦ inl (stays is.a is.b is.three.second e)
         | inr rest ↦ elim rest [
-          | inl e ↦ inr (inl (stays is.b is.c is.third e))
-          | inr e ↦ inr (inr (stays is.c is.a is.first e))
+          | inl e ↦ inr (inl (stays is.b is.c is.three.third e))
+          | inr e ↦ inr (inr (stays is.c is.a is.three.first e))
         ]
       ];
     }
@@ -194,9 +192,7 @@ spent_new n t u a b c m three e l each =
       b = b;
       c = c;
       is = refl;
-      first = three.first;
-      second = three.second;
-      third = three.third;
+      three = three;
       none_left = elim (which_least (cell t n a b) (cell t n b c) (cell t n c a)) [
         | inl f ↦ inl (gone a b three.second (is_arc a b c a b (inl (refl, refl))) (e ∙ f))
         | inr rest ↦ elim rest [
@@ -228,3 +224,52 @@ in_turn_more a k step x l =
     let count : k + 1 - a ≡ suc (k - a) = omega arith in
     let place : a + (k - a) ≡ k = omega arith in
     ap (λ j. in_turn a j step x) count ∙ ap (λ j. step j (in_turn a (k - a) step x)) place
+
+-- ---- what is left in the end
+
+zero_word : (M : Option ℕ) (w : ℕ) → IsMarginWord M w → w ≡ 0 → M ≡ Some 0
+zero_word (Some m) w e z = ap Some (sym e.0 ∙ z)
+zero_word None w e z = absurd (omega (arith, e))
+
+least_zero : (A B D : Option ℕ) → (A ≡ Some 0) ⊎ ((B ≡ Some 0) ⊎ (D ≡ Some 0)) → margin_number (lesser A (lesser B D)) ≡ 0
+least_zero A B D (inl e) = rw e (first (lesser B D))
+  where
+    first : (y : Option ℕ) → margin_number (lesser (Some 0) y) ≡ 0
+    first None = refl
+    first (Some k) = omega arith
+least_zero A B D (inr (inl e)) = rw e (second A D)
+  where
+    second : (x y : Option ℕ) → margin_number (lesser x (lesser (Some 0) y)) ≡ 0
+    second None None = refl
+    second None (Some d) = omega arith
+    second (Some a) None = omega arith
+    second (Some a) (Some d) = omega arith
+least_zero A B D (inr (inr e)) = rw e (third A B)
+  where
+    third : (x y : Option ℕ) → margin_number (lesser x (lesser y (Some 0))) ≡ 0
+    third None None = refl
+    third None (Some d) = omega arith
+    third (Some a) None = omega arith
+    third (Some a) (Some d) = omega arith
+
+-- a cycle that is spent in the table has taken all that it can
+pub exhausted : (C : Matrix) (G : List Pair) (terms : List Term) (t : List ℕ) (cut : CutKind) → HasMargins C G terms t → IsSpent C.size t cut → IsExhausted G (reduced_entry C 1 terms) cut
+exhausted C G terms t cut has is =
+    let r : ℕ → ℕ → ℤ = reduced_entry C 1 terms in
+    let a = is.a in
+    let b = is.b in
+    let c = is.c in
+    let three = is.three in
+    record {
+      a = a;
+      b = b;
+      c = c;
+      is = is.is;
+      none_left = least_zero (margin G r a b) (margin G r b c) (margin G r c a) (elim is.none_left [
+        | inl e ↦ inl (zero_word (margin G r a b) (cell t C.size a b) (has.each a b three.first three.second three.first_second) e)
+        | inr rest ↦ elim rest [
+          | inl e ↦ inr (inl (zero_word (margin G r b c) (cell t C.size b c) (has.each b c three.second three.third three.second_third) e))
+          | inr e ↦ inr (inr (zero_word (margin G r c a) (cell t C.size c a) (has.each c a three.third three.first (λ f. three.first_third (sym f))) e))
+        ]
+      ]);
+    }

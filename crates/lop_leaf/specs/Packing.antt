@@ -1,9 +1,10 @@
 -- The packing bound: 3-dicycles with multipliers, taken greedily in lexicographic order. It is a list of steps, and a yardstick.
-use Rattle.std.specs.Prelude.{ℕ, zero, suc, ◌+◌, ◌-◌, List, [], ◌∷◌, ◌++◌, length, sum_by, nat_lt, ◌&&◌, Option, Some, None, ℤ, pos, negsuc, ◌-ℤ◌, if◌then◌else◌, min}
+use Rattle.std.specs.Prelude.{◌≡◌, ℕ, zero, suc, ◌+◌, ◌-◌, List, [], ◌∷◌, ◌++◌, length, sum_by, nat_lt, ◌&&◌, Option, Some, None, ℤ, pos, negsuc, ◌-ℤ◌, if◌then◌else◌, min}
 use Rattle.lop_model.specs.declared.pair.Pair.{Pair}
 use Rattle.lop_model.specs.Matrix.{Matrix}
 use Rattle.lop_model.specs.Fixings.{has_pair}
 use Rattle.lop_model.specs.Bound.{pair_bound}
+use Rattle.lop_cuts.specs.declared.kind.CutKind.{CutKind}
 use Rattle.lop_cuts.specs.declared.kind.CutKind.TheVariants.{Dicycle}
 use Rattle.lop_cuts.specs.Lagrangian.{Term, reduced_entry}
 use Rattle.lop_leaf.specs.Record.{ScaledTerms}
@@ -35,6 +36,14 @@ cycle_margin G r a b c = margin_number (lesser (margin G r a b) (lesser (margin 
 -- the cycle a, b, c with a multiplier
 abbrev pub dicycle : ℕ → ℕ → ℕ → ℕ → Term
 dicycle a b c m = record { cut = Dicycle (a ∷ b ∷ c ∷ []); multiplier = m }
+
+-- the cut is a dicycle that has taken all that it can: its least margin is 0
+pub record IsExhausted (G : List Pair) (r : ℕ → ℕ → ℤ) (cut : CutKind) : Type 0 where
+  pub a : ℕ
+  pub b : ℕ
+  pub c : ℕ
+  pub is : cut ≡ Dicycle (a ∷ b ∷ c ∷ [])
+  pub none_left : cycle_margin G r a b c ≡ 0
 
 -- the terms after the cycle a, b, c: where its least margin in the reduced entries is positive, it is the cycle's multiplier. There are at most 4,096 terms
 abbrev pub pack_cycle : Matrix → List Pair → ℕ → ℕ → ℕ → List Term → List Term

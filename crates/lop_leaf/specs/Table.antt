@@ -36,24 +36,6 @@ pub record HasMargins (C : Matrix) (G : List Pair) (terms : List Term) (t : List
 abbrev pub lowered : ℕ → ℕ → ℕ
 lowered x m = if x == 2 ^ 64 - 1 then x else x - m
 
--- the cut is a dicycle of which an arc has no margin left
-pub record IsSpent (n : ℕ) (t : List ℕ) (cut : CutKind) : Type 0 where
-  pub a : ℕ
-  pub b : ℕ
-  pub c : ℕ
-  pub is : cut ≡ Dicycle (a ∷ b ∷ c ∷ [])
-  pub first : a < n
-  pub second : b < n
-  pub third : c < n
-  pub none_left : (cell t n a b ≡ 0) ⊎ (cell t n b c ≡ 0) ⊎ (cell t n c a ≡ 0)
-
--- what stands between two steps of packing: the margins, and terms at scale 1 whose cycles have no margin left
-pub record IsPacking (C : Matrix) (G : List Pair) (r : ScaledTerms) (t : List ℕ) : Type 0 where
-  pub scale : r.scale ≡ 1
-  pub fit : FitTerms C.size r.terms
-  pub margins : HasMargins C G r.terms t
-  pub spent : All (λ u. IsSpent C.size t u.cut) r.terms
-
 -- three different objects below n
 pub record AreThree (n a b c : ℕ) : Type 0 where
   pub first : a < n
@@ -62,3 +44,19 @@ pub record AreThree (n a b c : ℕ) : Type 0 where
   pub first_second : a ≢ b
   pub second_third : b ≢ c
   pub first_third : a ≢ c
+
+-- the cut is a dicycle of which an arc has no margin left
+pub record IsSpent (n : ℕ) (t : List ℕ) (cut : CutKind) : Type 0 where
+  pub a : ℕ
+  pub b : ℕ
+  pub c : ℕ
+  pub is : cut ≡ Dicycle (a ∷ b ∷ c ∷ [])
+  pub three : AreThree n a b c
+  pub none_left : (cell t n a b ≡ 0) ⊎ (cell t n b c ≡ 0) ⊎ (cell t n c a ≡ 0)
+
+-- what stands between two steps of packing: the margins, and terms at scale 1 whose cycles have no margin left
+pub record IsPacking (C : Matrix) (G : List Pair) (r : ScaledTerms) (t : List ℕ) : Type 0 where
+  pub scale : r.scale ≡ 1
+  pub fit : FitTerms C.size r.terms
+  pub margins : HasMargins C G r.terms t
+  pub spent : All (λ u. IsSpent C.size t u.cut) r.terms

@@ -1,4 +1,4 @@
-ghost use Rattle.std.specs.Prelude.{◌≡◌, ◌≢◌, ℕ, ◌+◌, ◌*◌, ◌<◌, ◌≤◌, ◌^◌, [], ◌∷◌, List, length, min, ℤ, pos, ◌-ℤ◌, ◌≤ℤ◌, if◌then◌else◌, ◌==◌, ◌&&◌};
+ghost use Rattle.std.specs.Prelude.{◌≡◌, ◌≢◌, ℕ, ◌+◌, ◌*◌, ◌<◌, ◌≤◌, ◌^◌, [], ◌∷◌, List, length, All, min, ℤ, pos, ◌-ℤ◌, ◌≤ℤ◌, if◌then◌else◌, ◌==◌, ◌&&◌};
 ghost use Rattle.lop_model.specs.Order.{IsOrder};
 ghost use Rattle.lop_model.specs.Matrix.{weight};
 ghost use Rattle.lop_model.specs.Fixings.{has_pair, IsLinearExtension};
@@ -7,7 +7,7 @@ ghost use Rattle.lop_cuts.specs.Arcs.{cycle_arcs};
 ghost use Rattle.lop_cuts.specs.Lagrangian.{reduced_entry};
 ghost use Rattle.lop_leaf.specs.Record.{HasCutsBelow};
 ghost use Rattle.lop_leaf.specs.Bound.{record_value};
-ghost use Rattle.lop_leaf.specs.Packing.{positive_part, margin, pack_cycle, pack_triple, pack_pair, pack_object, packed, packing_bound};
+ghost use Rattle.lop_leaf.specs.Packing.{positive_part, margin, pack_cycle, pack_triple, pack_pair, pack_object, packed, packing_bound, IsExhausted};
 ghost use Rattle.lop_leaf.specs.Table.{cell, lowered, IsMarginWord, HasMargins, IsPacking, AreThree};
 
 use crate::{LeafRecord, MAX_TERMS, PairRoom, upper};
@@ -260,6 +260,7 @@ pub fn packing(
     ensures cuts { HasCutsBelow weights.now.size rec.new.terms }
     ensures bounds { (s : List ℕ) → IsOrder weights.now.size s → IsLinearExtension s fixings.now.pairs → weight weights.now s ≤ℤ result }
     ensures at_most { result ≤ℤ pair_bound weights.now fixings.now.pairs }
+    ensures exhausted { All (λ t. IsExhausted fixings.now.pairs (reduced_entry weights.now 1 rec.new.terms) t.cut) rec.new.terms }
     ensures room { room.new ≡ room.old }
 {
     pack_all(weights, fixings, &mut room.margins, rec);

@@ -1,4 +1,5 @@
-use crate::{Evaluated, LeafRecord, PairRoom, Ticket, bound_of, upper};
+use crate::{Evaluated, LeafRecord, PairRoom, Ticket, bound_of, packing, upper};
+use lop_cuts::Cut;
 use lop_fix::{Decision, Fixings};
 use lop_model::{Order, Pair, Weights};
 use std::alloc::Global;
@@ -24,7 +25,22 @@ fn add(fixings: &mut Fixings, a: u16, b: u16) {
     }
 }
 
-// The bound of the fixings, where both speak of the same objects.
+// Three objects of which each wins one of its pairs by 2.
+fn tie_of_three(alloc: Global) -> Result<Option<Weights>, Fail> {
+    let entries: [i64; 9] = [0, 2, 0, 0, 0, 2, 2, 0, 0];
+    Ok(Weights::new(3, entries.to_vec(alloc)?).ok())
+}
+
+// Six objects with weight 2 on the nine arcs of a fence of three posts.
+fn three_fence(alloc: Global) -> Result<Option<Weights>, Fail> {
+    let entries: [i64; 36] = [
+        0, 0, 0, 2, 0, 0, 0, 0, 0, 0, 2, 0, 0, 0, 0, 0, 0, 2, 0, 2, 2, 0, 0, 0, 2, 0, 2, 0, 0, 0,
+        2, 2, 0, 0, 0, 0,
+    ];
+    Ok(Weights::new(6, entries.to_vec(alloc)?).ok())
+}
+
+// The bound of the fixings without terms, where both speak of the same objects.
 fn bound(alloc: Global, weights: &Weights, fixings: &Fixings) -> Result<Option<i128>, Fail> {
     let n = weights.n();
     let mut room = PairRoom::new(alloc, n)?;
@@ -35,8 +51,44 @@ fn bound(alloc: Global, weights: &Weights, fixings: &Fixings) -> Result<Option<i
     Ok(Some(upper(weights, fixings, &rec, &mut room)))
 }
 
+// The value of a record with the cycle 0, 1, 2 and this multiplier under the fixings.
+fn bound_with_cycle(
+    alloc: Global,
+    weights: &Weights,
+    fixings: &Fixings,
+    multiplier: u64,
+) -> Result<Option<i128>, Fail> {
+    let n = weights.n();
+    let mut room = PairRoom::new(alloc, n)?;
+    let mut rec = LeafRecord::new(alloc)?;
+    let Ok(cut) = Cut::dicycle(0, 1, 2, n) else {
+        return Ok(None);
+    };
+    if fixings.n() != n || multiplier < 1 || multiplier > 9 {
+        return Ok(None);
+    }
+    rec.put(cut, multiplier);
+    Ok(Some(upper(weights, fixings, &rec, &mut room)))
+}
+
+// The packing bound of the fixings, and how many terms show it.
+fn packs(
+    alloc: Global,
+    weights: &Weights,
+    fixings: &Fixings,
+) -> Result<Option<(i128, usize)>, Fail> {
+    let n = weights.n();
+    let mut room = PairRoom::new(alloc, n)?;
+    let mut rec = LeafRecord::new(alloc)?;
+    if fixings.n() != n {
+        return Ok(None);
+    }
+    let bound = packing(weights, fixings, &mut rec, &mut room);
+    Ok(Some((bound, rec.len())))
+}
+
 #[test]
-fn bounds_of_three_sectors(rt: HostRuntime) -> Result<(), Fail> {
+fn bounds_without_terms(rt: HostRuntime) -> Result<(), Fail> {
     let alloc = rt.alloc();
     let weights = three_sectors(alloc)?.expect(&rt, "weights");
     let mut fixings = Fixings::new(alloc, 3)?;
@@ -50,6 +102,60 @@ fn bounds_of_three_sectors(rt: HostRuntime) -> Result<(), Fail> {
     for (upper, scale, down) in [(12, 1, 12), (7, 2, 3), (-7, 2, -4), (-8, 2, -4)] {
         assert_eq!(rt; bound_of(upper, scale), down, "{upper} by {scale}");
     }
+    Ok(())
+}
+
+#[test]
+fn bounds_of_a_tie_of_three(rt: HostRuntime) -> Result<(), Fail> {
+    let alloc = rt.alloc();
+    let weights = tie_of_three(alloc)?.expect(&rt, "weights");
+    let mut fixings = Fixings::new(alloc, 3)?;
+    assert_eq!(rt; bound(alloc, &weights, &fixings)?, Some(6));
+    assert_eq!(rt; bound_with_cycle(alloc, &weights, &fixings, 2)?, Some(4));
+    assert_eq!(rt; bound_with_cycle(alloc, &weights, &fixings, 1)?, Some(5));
+    add(&mut fixings, 1, 0);
+    assert_eq!(rt; bound(alloc, &weights, &fixings)?, Some(4));
+    Ok(())
+}
+
+#[test]
+fn packing_bounds(rt: HostRuntime) -> Result<(), Fail> {
+    let alloc = rt.alloc();
+    let sectors = three_sectors(alloc)?.expect(&rt, "weights");
+    let tie = tie_of_three(alloc)?.expect(&rt, "weights");
+    let fence = three_fence(alloc)?.expect(&rt, "weights");
+    let mut of_three = Fixings::new(alloc, 3)?;
+    let mut of_six = Fixings::new(alloc, 6)?;
+    assert_eq!(rt; packs(alloc, &sectors, &of_three)?, Some((10, 1)));
+    assert_eq!(rt; packs(alloc, &tie, &of_three)?, Some((4, 1)));
+    assert_eq!(rt; packs(alloc, &fence, &of_six)?, Some((18, 0)));
+    add(&mut of_three, 1, 0);
+    assert_eq!(rt; packs(alloc, &tie, &of_three)?, Some((4, 0)));
+    add(&mut of_six, 0, 1);
+    assert_eq!(rt; packs(alloc, &fence, &of_six)?, Some((16, 1)));
+    Ok(())
+}
+
+// Puts a cycle into a record at scale 3, and copies it.
+fn copied(alloc: Global) -> Result<Option<(u32, usize, u64)>, Fail> {
+    let mut rec = LeafRecord::new(alloc)?;
+    let mut other = LeafRecord::new(alloc)?;
+    let Ok(cut) = Cut::dicycle(2, 0, 1, 3) else {
+        return Ok(None);
+    };
+    rec.set_scale(3);
+    rec.put(cut, 7);
+    other.copy_from(&rec);
+    rec.clear();
+    if other.len() != 1 || rec.len() != 0 {
+        return Ok(None);
+    }
+    Ok(Some((other.scale(), other.len(), other.term(0).multiplier)))
+}
+
+#[test]
+fn records(rt: HostRuntime) -> Result<(), Fail> {
+    assert_eq!(rt; copied(rt.alloc())?, Some((3, 1, 7)));
     Ok(())
 }
 

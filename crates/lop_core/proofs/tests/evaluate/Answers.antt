@@ -27,9 +27,6 @@ pub judge-requires-clause-room : goal.judge-requires-clause-room
 judge-requires-clause-room c =
     c.in_ok-room.ensures ∙ (c.n-n.ensures.size ∙ ap (λ (m : Matrix). m.size) (c.weights.ensures ∙ sym (c.weights-2.ensures ∙ ap (λ (v : CoreFields). v.problem.weights) c.in-Node.ensures.step.1)))
 
-pub judge-requires-clause-shown : goal.judge-requires-clause-shown
-judge-requires-clause-shown c = c.in_ok-shown.ensures
-
 pub judge-requires-clause-into : goal.judge-requires-clause-into
 judge-requires-clause-into c =
     ap (λ (e : EvaluatedFields). length e.order) c.in_ok-into.ensures ∙ (length-range_with_len 0 c.n-n.result

@@ -1,8 +1,9 @@
-use Rattle.std.proofs.Common.{◌∙◌, ap, rules, FitsSigned}
+use Rattle.std.proofs.Common.{get_or, ◌∙◌, ap, rules, FitsSigned}
 use Rattle.std.specs.Int.{w128}
 use Rattle.std.proofs.lemmas.Int.{to_z-of_z}
 use Rattle.lop_leaf.specs.Record.{ScaledTerms}
 use Rattle.lop_leaf.specs.Bound.{record_value}
+use Rattle.lop_leaf.proofs.PackingLemmas.{exhausted}
 use Rattle.lop_leaf.proofs.PackingValue.{packing_bound-shown, packing_bound-le}
 use Rattle.lop_leaf.proofs.pack.packing.Goals as goal
 
@@ -23,3 +24,8 @@ returns-clause-at_most c =
     let fits : FitsSigned w128 c.upper.result = search rules in
     let is = to_z-of_z w128 c.upper.result fits ∙ c.upper.ensures.value ∙ ap (λ (r : ScaledTerms). record_value C G r) c.pack_all.ensures.packed ∙ packing_bound-shown C G in
     rw is (packing_bound-le C G)
+
+pub returns-clause-exhausted : goal.returns-clause-exhausted
+returns-clause-exhausted c k d l =
+    let terms = c.pack_all.new.rec.terms in
+    exhausted c.args.weights.now c.args.fixings.now.pairs terms c.pack_all.new.table (get_or terms k d).cut c.pack_all.ensures.packing.margins (c.pack_all.ensures.packing.spent k d l)

@@ -1,5 +1,5 @@
-use Rattle.std.proofs.Common.{◌≡◌, ◌+◌, ◌<◌, length, get_or, ◌∙◌, ap, arith}
-use Rattle.std.specs.Prelude.{swap, insert, remove}
+use Rattle.std.proofs.Common.{◌≡◌, ◌+◌, length, get_or, ◌∙◌, ap, arith}
+use Rattle.std.specs.Prelude.{swap, remove}
 use Rattle.std.proofs.lemmas.List.Edits.{length-remove}
 use Rattle.lop_value.proofs.SwapLemmas.{swap-insert_later}
 use Rattle.lop_value.proofs.insertion.move_up.Goals as goal

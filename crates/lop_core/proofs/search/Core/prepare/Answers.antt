@@ -16,9 +16,9 @@ copy_from-requires c = ap length (c.in_ok-kept.ensures) ∙ (length-range_with_l
 pub invariant_of-result-2 : goal.invariant_of-result-2
 invariant_of-result-2 c =
     let same : c.in_ok-copy.field-0 ≡ c.args.weights.now = c.in_ok-copy.ensures in
-    let fits : FitsSigned w128 c.order_weight-best.result = search rules in
+    let fits : FitsSigned w128 c.value-best.result = search rules in
     let fits_bound : FitsSigned w128 c.in_ok-bound.bound = search rules in
-    let start = to_z-of_z w128 c.order_weight-best.result fits ∙ c.order_weight-best.ensures in
+    let start = to_z-of_z w128 c.value-best.result fits ∙ c.value-best.ensures.value in
     let order : IsOrder c.args.weights.now.size c.args.order.now = subst (λ n. IsOrder n c.args.order.now) (c.n-n.ensures.size ∙ c.requires.same_n) c.n-n.ensures.order in
     let bound : to_z w128 (of_z w128 c.in_ok-bound.bound) ≡ pair_bound c.args.weights.now [] = to_z-of_z w128 c.in_ok-bound.bound fits_bound ∙ c.in_ok-bound.ensures in
     let nodes : c.put_last.new.list.items ≡ child 0 no_pair (pair_bound c.args.weights.now []) ∷ [] =
@@ -29,7 +29,7 @@ invariant_of-result-2 c =
     let product : c.n-n.result * c.saturating_sub.result ≡ c.n-n.result * (c.n-n.result - 1) = ap (λ k. c.n-n.result * k) less in
     let size : c.in_ok-copy.field-0.size ≡ c.n-n.result = ap (λ (m : Matrix). m.size) same ∙ sym (c.n-n.ensures.size ∙ c.requires.same_n) in
     let journal : c.in_ok-with_capacity.field-0.items ≡ [] = search rules in
-    let kept = made c.in_ok-copy.field-0 c.args.weights.now c.args.budget _ c.put_last.new.list.items c.in_ok-with_capacity.field-0.items _ c.args.order.now same start order nodes journal (c.kept.view_is ∙ c.copy_from.ensures) in (
+    let kept = made c.in_ok-copy.field-0 c.args.weights.now c.args.budget _ c.put_last.new.list.items c.in_ok-with_capacity.field-0.items _ c.args.order.now _ same start order nodes journal (c.kept.view_is ∙ c.copy_from.ensures) c.in_ok-prepare.ensures.book in (
       kept.0,
       kept.1,
       record {
@@ -38,7 +38,9 @@ invariant_of-result-2 c =
         for_nodes = omega (arith, c.put_last.ensures.room, c.in_ok-nodes.ensures.capacity);
         for_entries = omega (arith, c.in_ok-with_capacity.ensures.capacity);
         for_path = rw size (omega (arith, product, c.in_ok-with_capacity-2.ensures.capacity));
+        for_records = c.in_ok-prepare.ensures.for_nodes;
       },
       kept.2,
-      c.in_ok-new.ensures,
+      c.in_ok-prepare.ensures.kept,
+      c.in_ok-prepare.ensures.term_room,
     )

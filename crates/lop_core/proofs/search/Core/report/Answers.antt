@@ -1,12 +1,16 @@
-use Rattle.std.proofs.Common.{rules, ◌≡◌, ◌<◌, ◌≤◌, List, length, arith, sym, ◌∙◌, ap, subst, FitsSigned, refl, true, false, to_z, of_z}
+use Rattle.std.proofs.Common.{rules, ◌≡◌, ◌<◌, ◌≤◌, length, arith, sym, ◌∙◌, ap, subst, FitsSigned, refl, true, false, to_z, of_z}
 use Rattle.std.proofs.lemmas.Int.{to_z-of_z}
 use mir.Syntax.{w128}
-use Rattle.lop_core.specs.declared.node.SearchNode.{SearchNode}
 use Rattle.lop_core.specs.declared.node.Standing.TheVariants.{Out}
 use Rattle.lop_core.specs.Machine.{IsOutTo}
-use Rattle.lop_core.specs.Core.{CoreFields, AreCertified, IsSoundReport}
+use Rattle.lop_core.specs.Records.{with_children}
+use Rattle.lop_core.specs.Core.{CoreFields, IsSoundReport}
 use Rattle.lop_core.specs.contracts.search.Core.{the_view}
-use Rattle.lop_core.proofs.CoreLemmas.{core_counted, report_counts, report_certified, out_to, not_out_to, not_there, Leaves, leaves_by, left_true, left_outs, left_noted, left_keeps}
+use Rattle.lop_core.proofs.CoreLemmas.{core_counted, report_counts, out_to, not_out_to, not_there, Leaves, leaves_by, left_true, left_outs, left_noted, left_keeps, kept_is, room_is, taken_is, report_facts, report_laws, if_some}
+use Rattle.lop_core.proofs.BookLemmas.{GrownBook, grown_by}
+use Rattle.lop_core.specs.Kept.{book_of, record_of}
+use Rattle.lop_leaf.specs.Record.{IsScaledTerms}
+use Rattle.std.proofs.lemmas.List.{length-map}
 use Rattle.lop_core.proofs.search.Core.report.Goals as goal
 use Rattle.lop_core.proofs.search.Core.report.Goals.{in-Some, in-None}
 
@@ -47,65 +51,117 @@ put_last-requires c =
     let one = report_counts (the_view c.self.inside) c.args.worker c.node-node.result c.self.invariant.0 out in
     omega (arith, h.entries, h.within, one, c.self.invariant.2.for_entries)
 
-pub settle-requires-clause-room : goal.settle-requires-clause-room
-settle-requires-clause-room c =
+pub settle-split-requires-clause-room : goal.settle-split-requires-clause-room
+settle-split-requires-clause-room c =
     let lt : c.node-node.result < length c.self.inside.nodes.items = omega (arith, c.len.ensures, c.if-index-len.false) in
     let out = out_to (the_view c.self.inside).state c.args.worker c.node-node.result c.index.result.now lt c.index.ensures (c.if-not-is_out_to.ensures.0 refl) in
     let h = core_counted _ c.self.invariant.0 in
     let one = report_counts (the_view c.self.inside) c.args.worker c.node-node.result c.self.invariant.0 out in
     omega (arith, h.size, h.splits, h.within, one, c.self.invariant.2.for_nodes)
 
-pub settle-requires-clause-small : goal.settle-requires-clause-small
-settle-requires-clause-small c =
+pub settle-split-requires-clause-small : goal.settle-split-requires-clause-small
+settle-split-requires-clause-small c =
     let lt : c.node-node.result < length c.self.inside.nodes.items = omega (arith, c.len.ensures, c.if-index-len.false) in
     let out = out_to (the_view c.self.inside).state c.args.worker c.node-node.result c.index.result.now lt c.index.ensures (c.if-not-is_out_to.ensures.0 refl) in
     let h = core_counted _ c.self.invariant.0 in
     let one = report_counts (the_view c.self.inside) c.args.worker c.node-node.result c.self.invariant.0 out in
     omega (arith, h.size, h.splits, h.within, one, c.self.invariant.2.within_limit)
 
-pub invariant_of-self : goal.invariant_of-self
-invariant_of-self c =
-    let old : CoreFields = the_view c.self.inside in
-    let found = c.args.found.now in
+pub inherit-requires-clause-inside : goal.inherit-requires-clause-inside
+inherit-requires-clause-inside c =
     let lt : c.node-node.result < length c.self.inside.nodes.items = omega (arith, c.len.ensures, c.if-index-len.false) in
     let out = subst (λ n. IsOutTo (the_view c.self.inside).state c.args.worker n) c.node-node.ensures (out_to (the_view c.self.inside).state c.args.worker c.node-node.result c.index.result.now lt c.index.ensures (c.if-not-is_out_to.ensures.0 refl)) in
     let sound = subst (λ (v : CoreFields). IsOutTo v.state c.args.worker c.args.found.now.node → IsSoundReport v c.args.found.now) (sym c.self.view_is) c.requires.sound out in
-    let fb : FitsSigned w128 c.bound-bound.result = search rules in
+    let few = subst IsScaledTerms c.shown.ensures c.offer-room.ensures.shown in
+    let room = room_is (the_view c.self.inside) c.args.found.now c.offer-room.result c.self.inside.records.term_room c.shown.result.now c.offer-room.ensures.room c.self.invariant.5 c.shown.ensures in
+    let taken = taken_is (book_of c.self.inside.records) (book_of c.offer-room.new.self) c.offer-room.result _ c.node-node.result c.args.found.now.node c.shown.result.now c.args.found.now.shown room c.node-node.ensures c.shown.ensures c.offer-room.ensures.taken in
+    let facts = report_facts (the_view c.self.inside) c.args.found.now (book_of c.offer-room.new.self) c.self.invariant.0 c.self.invariant.1 c.self.invariant.4.book (subst (λ n. n < length c.self.inside.nodes.items) c.node-node.ensures lt) sound few taken in
+    let spans : length c.offer-room.new.self.spans.items ≡ length c.self.inside.nodes.items = sym (length-map c.offer-room.new.self.spans.items (record_of c.offer-room.new.self.terms.items)) ∙ facts.same_length in
+    omega (arith, spans, lt)
+
+pub inherit-requires-clause-room : goal.inherit-requires-clause-room
+inherit-requires-clause-room c =
+    let lt : c.node-node.result < length c.self.inside.nodes.items = omega (arith, c.len.ensures, c.if-index-len.false) in
+    let out = subst (λ n. IsOutTo (the_view c.self.inside).state c.args.worker n) c.node-node.ensures (out_to (the_view c.self.inside).state c.args.worker c.node-node.result c.index.result.now lt c.index.ensures (c.if-not-is_out_to.ensures.0 refl)) in
+    let sound = subst (λ (v : CoreFields). IsOutTo v.state c.args.worker c.args.found.now.node → IsSoundReport v c.args.found.now) (sym c.self.view_is) c.requires.sound out in
+    let few = subst IsScaledTerms c.shown.ensures c.offer-room.ensures.shown in
+    let room = room_is (the_view c.self.inside) c.args.found.now c.offer-room.result c.self.inside.records.term_room c.shown.result.now c.offer-room.ensures.room c.self.invariant.5 c.shown.ensures in
+    let taken = taken_is (book_of c.self.inside.records) (book_of c.offer-room.new.self) c.offer-room.result _ c.node-node.result c.args.found.now.node c.shown.result.now c.args.found.now.shown room c.node-node.ensures c.shown.ensures c.offer-room.ensures.taken in
+    let facts = report_facts (the_view c.self.inside) c.args.found.now (book_of c.offer-room.new.self) c.self.invariant.0 c.self.invariant.1 c.self.invariant.4.book (subst (λ n. n < length c.self.inside.nodes.items) c.node-node.ensures lt) sound few taken in
+    let spans : length c.offer-room.new.self.spans.items ≡ length c.self.inside.nodes.items = sym (length-map c.offer-room.new.self.spans.items (record_of c.offer-room.new.self.terms.items)) ∙ facts.same_length in
+    let own = out_to (the_view c.self.inside).state c.args.worker c.node-node.result c.index.result.now lt c.index.ensures (c.if-not-is_out_to.ensures.0 refl) in
+    let h = core_counted _ c.self.invariant.0 in
+    let one = report_counts (the_view c.self.inside) c.args.worker c.node-node.result c.self.invariant.0 own in
+    if_some c.settle-split.result (omega (arith, spans, h.size, h.splits, h.within, one, c.self.invariant.2.for_records, c.offer-room.ensures.for_nodes))
+
+pub invariant_of-self : goal.invariant_of-self
+invariant_of-self c =
+    let lt : c.node-node.result < length c.self.inside.nodes.items = omega (arith, c.len.ensures, c.if-index-len.false) in
+    let out = subst (λ n. IsOutTo (the_view c.self.inside).state c.args.worker n) c.node-node.ensures (out_to (the_view c.self.inside).state c.args.worker c.node-node.result c.index.result.now lt c.index.ensures (c.if-not-is_out_to.ensures.0 refl)) in
+    let sound = subst (λ (v : CoreFields). IsOutTo v.state c.args.worker c.args.found.now.node → IsSoundReport v c.args.found.now) (sym c.self.view_is) c.requires.sound out in
+    let few = subst IsScaledTerms c.shown.ensures c.offer-room.ensures.shown in
+    let room = room_is (the_view c.self.inside) c.args.found.now c.offer-room.result c.self.inside.records.term_room c.shown.result.now c.offer-room.ensures.room c.self.invariant.5 c.shown.ensures in
+    let taken = taken_is (book_of c.self.inside.records) (book_of c.offer-room.new.self) c.offer-room.result _ c.node-node.result c.args.found.now.node c.shown.result.now c.args.found.now.shown room c.node-node.ensures c.shown.ensures c.offer-room.ensures.taken in
+    let fb : FitsSigned w128 c.bound.result = search rules in
+    let fb2 : FitsSigned w128 c.bound-2.result = search rules in
+    let fs : FitsSigned w128 c.index-2.result.now.bound = search rules in
+    let fk : FitsSigned w128 c.either-bound.result = search rules in
     let fv : FitsSigned w128 c.value-value.result = search rules in
     let fx : FitsSigned w128 c.keep_better.new.best = search rules in
-    let l : Leaves (the_view c.self.inside) c.args.worker c.args.found.now c.settle.new.nodes.items c.keep_better.new.best c.put_last.new.list.items c.keep_better.new.order =
-    leaves_by (the_view c.self.inside) c.args.worker c.args.found.now c.settle.new.nodes.items c.keep_better.new.best c.put_last.new.list.items c.keep_better.new.order
-    c.node-node.result (to_z w128 (of_z w128 c.bound-bound.result)) (to_z w128 (of_z w128 c.value-value.result)) (to_z w128 (of_z w128 c.keep_better.new.best)) c.pair-pair.result c.order.result.now
-    c.node-node.ensures (to_z-of_z w128 c.bound-bound.result fb ∙ c.bound-bound.ensures) (to_z-of_z w128 c.value-value.result fv ∙ c.value-value.ensures) (to_z-of_z w128 c.keep_better.new.best fx) c.pair-pair.ensures c.order.ensures
-    c.settle.ensures.after c.keep_better.ensures.best c.put_last.ensures.items c.keep_better.ensures.order in (
-      left_true (the_view c.self.inside) c.args.worker c.args.found.now _ _ _ _ l c.self.invariant.0 out sound,
-      subst (λ (ns : List SearchNode). AreCertified c.self.inside.weights ns) (sym l.nodes_are) (report_certified (the_view c.self.inside) c.args.worker c.args.found.now c.keep_better.new.best c.self.invariant.0 c.self.invariant.1 out sound),
+    let kept = kept_is (the_view c.self.inside) c.args.found.now c.offer-room.result (to_z w128 (of_z w128 c.bound-2.result)) (to_z w128 (of_z w128 c.index-2.result.now.bound)) c.node-node.result c.index-2.result.now room (to_z-of_z w128 c.bound-2.result fb2 ∙ c.bound-2.ensures) (to_z-of_z w128 c.index-2.result.now.bound fs) c.node-node.ensures c.index-2.ensures lt in
+    let l : Leaves (the_view c.self.inside) c.args.worker c.args.found.now c.settle-split.new.nodes.items c.keep_better.new.best c.put_last.new.list.items c.keep_better.new.order =
+    leaves_by (the_view c.self.inside) c.args.worker c.args.found.now c.settle-split.new.nodes.items c.keep_better.new.best c.put_last.new.list.items c.keep_better.new.order
+    c.node-node.result (to_z w128 (of_z w128 c.bound.result)) (to_z w128 (of_z w128 c.either-bound.result)) (to_z w128 (of_z w128 c.value-value.result)) (to_z w128 (of_z w128 c.keep_better.new.best)) c.pair-pair.result c.order.result.now c.offer-room.result
+    c.node-node.ensures (to_z-of_z w128 c.bound.result fb ∙ c.bound.ensures) (to_z-of_z w128 c.either-bound.result fk ∙ c.either-bound.ensures ∙ kept) (to_z-of_z w128 c.value-value.result fv ∙ c.value-value.ensures) (to_z-of_z w128 c.keep_better.new.best fx) c.pair-pair.ensures c.order.ensures room
+    c.settle-split.ensures.after c.keep_better.ensures.best c.put_last.ensures.items c.keep_better.ensures.order in
+    let grown = grown_by c.self.inside.nodes.items c.settle-split.new.nodes.items (book_of c.offer-room.new.self) (book_of c.inherit.new.self) c.node-node.result c.settle-split.result
+    c.settle-split.ensures.first c.settle-split.ensures.closed c.inherit.ensures.split c.inherit.ensures.closed in
+    let grown' = subst (λ n. GrownBook c.self.inside.nodes.items (book_of c.offer-room.new.self) n c.settle-split.result c.settle-split.new.nodes.items (book_of c.inherit.new.self)) c.node-node.ensures grown in (
+      left_true (the_view c.self.inside) c.args.worker c.args.found.now _ _ _ _ l _ c.self.invariant.0 c.self.invariant.1 few out sound,
+      report_laws (the_view c.self.inside) _ c.args.worker c.args.found.now c.keep_better.new.best (book_of c.offer-room.new.self) c.settle-split.result c.settle-split.new.nodes.items
+          c.self.invariant.0 c.self.invariant.1 c.self.invariant.4.book out sound few taken l.nodes_are grown' refl refl l.journal_is,
       record {
         positive = c.self.invariant.2.positive;
         within_limit = c.self.invariant.2.within_limit;
-        for_nodes = omega (arith, c.self.invariant.2.for_nodes, c.settle.ensures.room);
+        for_nodes = omega (arith, c.self.invariant.2.for_nodes, c.settle-split.ensures.room);
         for_entries = omega (arith, c.self.invariant.2.for_entries, c.put_last.ensures.room);
         for_path = c.self.invariant.2.for_path;
+        for_records = omega (arith, c.self.invariant.2.for_records, c.offer-room.ensures.for_nodes, c.inherit.ensures.for_nodes);
       },
-      omega (arith, c.self.invariant.3, left_outs (the_view c.self.inside) c.args.worker c.args.found.now _ _ _ _ l c.self.invariant.0 out sound),
-      c.self.invariant.4,
+      omega (arith, c.self.invariant.3, left_outs (the_view c.self.inside) c.args.worker c.args.found.now _ _ _ _ l c.self.invariant.0 c.self.invariant.1 few out sound),
+      c.inherit.ensures.kept,
+      c.inherit.ensures.term_room ∙ c.offer-room.ensures.term_room ∙ c.self.invariant.5,
     )
 
 pub returns : goal.returns
 returns c =
     let lt : c.node-node.result < length c.self.inside.nodes.items = omega (arith, c.len.ensures, c.if-index-len.false) in
     let out = subst (λ n. IsOutTo (the_view c.self.inside).state c.args.worker n) c.node-node.ensures (out_to (the_view c.self.inside).state c.args.worker c.node-node.result c.index.result.now lt c.index.ensures (c.if-not-is_out_to.ensures.0 refl)) in
-    let fb : FitsSigned w128 c.bound-bound.result = search rules in
+    let sound = subst (λ (v : CoreFields). IsOutTo v.state c.args.worker c.args.found.now.node → IsSoundReport v c.args.found.now) (sym c.self.view_is) c.requires.sound out in
+    let few = subst IsScaledTerms c.shown.ensures c.offer-room.ensures.shown in
+    let room = room_is (the_view c.self.inside) c.args.found.now c.offer-room.result c.self.inside.records.term_room c.shown.result.now c.offer-room.ensures.room c.self.invariant.5 c.shown.ensures in
+    let taken = taken_is (book_of c.self.inside.records) (book_of c.offer-room.new.self) c.offer-room.result _ c.node-node.result c.args.found.now.node c.shown.result.now c.args.found.now.shown room c.node-node.ensures c.shown.ensures c.offer-room.ensures.taken in
+    let fb : FitsSigned w128 c.bound.result = search rules in
+    let fb2 : FitsSigned w128 c.bound-2.result = search rules in
+    let fs : FitsSigned w128 c.index-2.result.now.bound = search rules in
+    let fk : FitsSigned w128 c.either-bound.result = search rules in
     let fv : FitsSigned w128 c.value-value.result = search rules in
     let fx : FitsSigned w128 c.keep_better.new.best = search rules in
-    let l : Leaves (the_view c.self.inside) c.args.worker c.args.found.now c.settle.new.nodes.items c.keep_better.new.best c.put_last.new.list.items c.keep_better.new.order =
-    leaves_by (the_view c.self.inside) c.args.worker c.args.found.now c.settle.new.nodes.items c.keep_better.new.best c.put_last.new.list.items c.keep_better.new.order
-    c.node-node.result (to_z w128 (of_z w128 c.bound-bound.result)) (to_z w128 (of_z w128 c.value-value.result)) (to_z w128 (of_z w128 c.keep_better.new.best)) c.pair-pair.result c.order.result.now
-    c.node-node.ensures (to_z-of_z w128 c.bound-bound.result fb ∙ c.bound-bound.ensures) (to_z-of_z w128 c.value-value.result fv ∙ c.value-value.ensures) (to_z-of_z w128 c.keep_better.new.best fx) c.pair-pair.ensures c.order.ensures
-    c.settle.ensures.after c.keep_better.ensures.best c.put_last.ensures.items c.keep_better.ensures.order in
-    let noted = left_noted (the_view c.self.inside) c.args.worker c.args.found.now _ _ _ _ l in
+    let kept = kept_is (the_view c.self.inside) c.args.found.now c.offer-room.result (to_z w128 (of_z w128 c.bound-2.result)) (to_z w128 (of_z w128 c.index-2.result.now.bound)) c.node-node.result c.index-2.result.now room (to_z-of_z w128 c.bound-2.result fb2 ∙ c.bound-2.ensures) (to_z-of_z w128 c.index-2.result.now.bound fs) c.node-node.ensures c.index-2.ensures lt in
+    let l : Leaves (the_view c.self.inside) c.args.worker c.args.found.now c.settle-split.new.nodes.items c.keep_better.new.best c.put_last.new.list.items c.keep_better.new.order =
+    leaves_by (the_view c.self.inside) c.args.worker c.args.found.now c.settle-split.new.nodes.items c.keep_better.new.best c.put_last.new.list.items c.keep_better.new.order
+    c.node-node.result (to_z w128 (of_z w128 c.bound.result)) (to_z w128 (of_z w128 c.either-bound.result)) (to_z w128 (of_z w128 c.value-value.result)) (to_z w128 (of_z w128 c.keep_better.new.best)) c.pair-pair.result c.order.result.now c.offer-room.result
+    c.node-node.ensures (to_z-of_z w128 c.bound.result fb ∙ c.bound.ensures) (to_z-of_z w128 c.either-bound.result fk ∙ c.either-bound.ensures ∙ kept) (to_z-of_z w128 c.value-value.result fv ∙ c.value-value.ensures) (to_z-of_z w128 c.keep_better.new.best fx) c.pair-pair.ensures c.order.ensures room
+    c.settle-split.ensures.after c.keep_better.ensures.best c.put_last.ensures.items c.keep_better.ensures.order in
+    let noted = left_noted (the_view c.self.inside) c.args.worker c.args.found.now _ _ _ _ l (book_of c.inherit.new.self) in
     let keeps = left_keeps (the_view c.self.inside) c.args.worker c.args.found.now _ _ _ _ l in
-    elim c.match-settle.branch [
-      | in-Some w ↦ rw (w.result-is, ← c.self.view_is) (record { step = (record { was_out = out; noted = noted; keeps = keeps }, w.in-Some.ensures.first.0, w.in-Some.ensures.first.1) })
-      | in-None w ↦ rw (w.result-is, ← c.self.view_is) (record { step = (record { was_out = out; noted = noted; keeps = keeps }, w.in-None.ensures.closed) })
+    elim c.match-split.branch [
+      | in-Some w ↦
+          let first = rw w.in-Some.is at c.settle-split.ensures.first in
+          let book = rw w.in-Some.is at c.inherit.ensures.split in
+          rw (w.result-is, ← c.self.view_is) (record { step = (record { was_out = out; noted = noted; keeps = keeps; book = book_of c.offer-room.new.self; taken = taken }, first.0, first.1, subst (λ n. book_of c.inherit.new.self ≡ with_children (book_of c.offer-room.new.self) n) c.node-node.ensures book) })
+      | in-None w ↦
+          let closed = rw w.in-None.is at c.settle-split.ensures.closed in
+          let book = rw w.in-None.is at c.inherit.ensures.closed in
+          rw (w.result-is, ← c.self.view_is) (record { step = (record { was_out = out; noted = noted; keeps = keeps; book = book_of c.offer-room.new.self; taken = taken }, closed, book) })
     ]

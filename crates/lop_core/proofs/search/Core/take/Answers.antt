@@ -1,13 +1,13 @@
-use Rattle.std.proofs.Common.{rules, ◌≡◌, ℕ, ◌+◌, ◌<◌, List, length, arith, sym, ◌∙◌, ap, subst, refl, FitsSigned}
+use Rattle.std.proofs.Common.{rules, ◌≡◌, ℕ, ◌+◌, ◌<◌, length, arith, sym, ◌∙◌, ap, subst, refl, FitsSigned}
 use Rattle.std.proofs.lemmas.Int.{to_z-of_z}
 use Rattle.std.proofs.lemmas.Option.{slice_get_within}
 use mir.Syntax.{w128}
-use Rattle.lop_core.specs.declared.node.SearchNode.{SearchNode}
 use Rattle.lop_core.specs.Tree.{AreLinked, out_count}
-use Rattle.lop_core.specs.Core.{CoreFields, HasHistory, AreCertified}
+use Rattle.lop_core.specs.Core.{CoreFields, HasHistory}
 use Rattle.lop_core.specs.contracts.search.Core.{the_view}
 use Rattle.lop_core.proofs.Linked.{core_linked}
-use Rattle.lop_core.proofs.CoreLemmas.{core_counted, core_take, core_path_length, may_take, written_out, take_view, take_outs, take_certified, take_step, take_on_node, ticket_is, first_in, live_in, never_live, never_ready}
+use Rattle.lop_core.proofs.BookLemmas.{take_recorded}
+use Rattle.lop_core.proofs.CoreLemmas.{core_counted, core_take, core_path_length, may_take, written_out, take_view, take_outs, take_step, take_on_node, ticket_is, first_in, live_in, never_live, never_ready}
 use Rattle.lop_core.proofs.search.Core.take.Goals as goal
 use Rattle.lop_core.proofs.search.Core.take.Goals.{in-Some-first_live, in-None}
 
@@ -84,17 +84,18 @@ invariant_of-self c =
     let nodes = written_out c.self.inside.nodes.items c.in-Some.index c.args.worker c.index_mut.result.now inside c.index_mut.ensures.value in
     let history = core_take _ c.args.worker c.in-Some.index c.self.invariant.0 may in (
       subst HasHistory (sym (take_view _ c.args.worker c.in-Some.index _ _ nodes c.put_last.ensures.items)) history,
-      subst (λ (ns : List SearchNode). AreCertified c.self.inside.weights ns) (sym nodes)
-          (take_certified (the_view c.self.inside) c.args.worker c.in-Some.index c.self.invariant.1 inside),
+      take_recorded (the_view c.self.inside) _ c.args.worker c.in-Some.index c.self.invariant.1 inside refl nodes refl c.put_last.ensures.items,
       record {
         positive = c.self.invariant.2.positive;
         within_limit = c.self.invariant.2.within_limit;
         for_nodes = c.self.invariant.2.for_nodes;
         for_entries = omega (arith, c.self.invariant.2.for_entries, c.put_last.ensures.room);
         for_path = omega (arith, c.self.invariant.2.for_path, c.fill_ticket.ensures.room);
+        for_records = c.self.invariant.2.for_records;
       },
       ap (λ (k : ℕ). k + 1) c.self.invariant.3 ∙ (sym (take_outs _ _ c.args.worker c.in-Some.index may) ∙ sym (ap out_count nodes)),
       c.self.invariant.4,
+      c.self.invariant.5,
     )
 
 pub returns-clause-step : goal.returns-clause-step
@@ -107,7 +108,7 @@ returns-clause-step c =
     let lt : c.in-Some.index < length c.deref.result.now = slice_get_within c.deref.result.now c.in-Some.index r.it r.is_there in
     let nodes = written_out c.self.inside.nodes.items c.in-Some.index c.args.worker c.index_mut.result.now (omega arith) c.index_mut.ensures.value in
     let size = c.requires.same_n ∙ sym (ap (λ (v : CoreFields). v.problem.weights.size) c.self.view_is) in
-    let ticket = ticket_is (the_view c.self.inside) c.in-Some.index _ c.deref-2.result.now _ _ c.fill_ticket.new.into c.deref-2.ensures.value size best c.self.invariant.4 c.fill_ticket.ensures.ticket in
+    let ticket = ticket_is (the_view c.self.inside) c.in-Some.index _ c.deref-2.result.now _ _ c.fill_ticket.new.into c.deref-2.ensures.value size best c.read.ensures c.fill_ticket.ensures.ticket in
     rw (← c.self.view_is) (take_step (the_view c.self.inside) _ c.args.worker c.in-Some.index c.fill_ticket.new.into may (take_view _ c.args.worker c.in-Some.index _ _ nodes c.put_last.ensures.items) ticket)
 
 pub returns-clause-on_node : goal.returns-clause-on_node
@@ -120,7 +121,7 @@ returns-clause-on_node c =
     let inside : c.in-Some.index < length c.self.inside.nodes.items = omega arith in
     let nodes = written_out c.self.inside.nodes.items c.in-Some.index c.args.worker c.index_mut.result.now inside c.index_mut.ensures.value in
     let size = c.requires.same_n ∙ sym (ap (λ (v : CoreFields). v.problem.weights.size) c.self.view_is) in
-    let ticket = ticket_is (the_view c.self.inside) c.in-Some.index _ c.deref-2.result.now _ _ c.fill_ticket.new.into c.deref-2.ensures.value size best c.self.invariant.4 c.fill_ticket.ensures.ticket in
+    let ticket = ticket_is (the_view c.self.inside) c.in-Some.index _ c.deref-2.result.now _ _ c.fill_ticket.new.into c.deref-2.ensures.value size best c.read.ensures c.fill_ticket.ensures.ticket in
     let view = take_view (the_view c.self.inside) c.args.worker c.in-Some.index _ _ nodes c.put_last.ensures.items in
-    rw (← c.self.view_is) (take_on_node (the_view c.self.inside) _ c.args.worker c.in-Some.index c.fill_ticket.new.into c.self.invariant.0 c.self.invariant.1 inside view ticket
+    rw (← c.self.view_is) (take_on_node (the_view c.self.inside) _ c.args.worker c.in-Some.index c.fill_ticket.new.into c.self.invariant.0 c.self.invariant.1 c.self.invariant.4.book inside view ticket
     (first_in (the_view c.self.inside).state c.in-Some.index c.deref.result.now _ c.deref.ensures.value best c.in-Some.ensures.found))

@@ -1,0 +1,3 @@
+pub mod ExtensionLemmas
+pub mod SoundLemmas
+pub mod RootLemmas

@@ -1,0 +1,79 @@
+ghost use Rattle.std.specs.Prelude.{◌≡◌, OnOk};
+ghost use Rattle.lop_leaf.specs.Sound.{IsSoundTicket};
+
+use crate::{Judge, PackJudge};
+use lop_fix::Fixings;
+use lop_leaf::{Evaluated, LeafRecord, PairRoom, Ticket, upper};
+use lop_model::{Pair, Weights};
+use std::alloc::{AllocError, Global};
+use std::test::Fail;
+
+// Writes the ticket of a root with the pair bound and no term.
+fn fill_root(alloc: Global, weights: &Weights, ticket: &mut Ticket) -> Result<(), AllocError>
+    requires { ticket.old.size ≡ weights.now.size }
+    ensures { OnOk result (IsSoundTicket weights.now ticket.new) }
+{
+    let n = weights.n();
+    let fixings = Fixings::new(alloc, n)?;
+    let mut room = PairRoom::new(alloc, n)?;
+    let rec = LeafRecord::new(alloc)?;
+    let bound = upper(weights, &fixings, &rec, &mut room);
+    ticket.fill(0, bound, bound, &[], &rec);
+    Ok(())
+}
+
+// What the judge finds at the root: the bound, the pair, the number of terms and the value.
+fn root(
+    alloc: Global,
+    n: u16,
+    entries: &[i64],
+) -> Result<Option<(i128, Option<Pair>, usize, i128)>, Fail> {
+    let Ok(weights) = Weights::new(n, entries.to_vec(alloc)?) else {
+        return Ok(None);
+    };
+    let n = weights.n();
+    let mut judge = PackJudge::new(alloc, n)?;
+    let mut ticket = Ticket::new(alloc, n)?;
+    let mut into = Evaluated::new(alloc, n)?;
+    fill_root(alloc, &weights, &mut ticket)?;
+    judge.judge(&weights, &ticket, &mut into);
+    Ok(Some((into.bound(), into.pair(), into.shown().len(), into.value())))
+}
+
+fn pair(before: u16, after: u16) -> Option<Pair> {
+    Some(Pair { before, after })
+}
+
+#[test]
+fn roots(rt: HostRuntime) -> Result<(), Fail> {
+    let alloc = rt.alloc();
+    let sectors: [i64; 9] = [0, 5, 1, 2, 0, 4, 3, 1, 0];
+    assert_eq!(rt; root(alloc, 3, &sectors)?, Some((10, pair(0, 1), 1, 10)));
+    let tie: [i64; 9] = [0, 2, 0, 0, 0, 2, 2, 0, 0];
+    assert_eq!(rt; root(alloc, 3, &tie)?, Some((4, pair(0, 1), 1, 4)));
+    assert_eq!(rt; root(alloc, 1, &[7])?, Some((0, None, 0, 0)));
+    Ok(())
+}
+
+#[test]
+fn root_of_a_three_fence(rt: HostRuntime) -> Result<(), Fail> {
+    let fence: [i64; 36] = [
+        0, 0, 0, 2, 0, 0, 0, 0, 0, 0, 2, 0, 0, 0, 0, 0, 0, 2, 0, 2, 2, 0, 0, 0, 2, 0, 2, 0, 0, 0,
+        2, 2, 0, 0, 0, 0,
+    ];
+    let found = root(rt.alloc(), 6, &fence)?;
+    assert_eq!(rt; found, Some((18, pair(0, 1), 0, 6)));
+    Ok(())
+}
+
+fn sent<X: Send>(value: X) -> X {
+    value
+}
+
+// A judge may be sent to another thread: the check proves the bound.
+#[test]
+fn may_cross_threads(rt: HostRuntime) -> Result<(), Fail> {
+    let judge = sent(PackJudge::new(rt.alloc(), 4)?);
+    assert_eq!(rt; judge.n(), 4);
+    Ok(())
+}

@@ -40,7 +40,7 @@ pub record IsWritten (l : CertLine) : Type 0 where
   pub row : is_row l.word l.numbers ≡ true
   pub short : length (line_text l) < 131072
 
-abbrev AreWritten : List CertLine → Type 0
+abbrev pub AreWritten : List CertLine → Type 0
 AreWritten [] = Unit {0}
 AreWritten (l ∷ ls) = IsWritten l × AreWritten ls
 
@@ -387,7 +387,7 @@ module _ (C : Matrix) (weights : IsWeights C) (c : Certificate) (holds : IsTreeC
       ∙ ap (λ (t : Bool). cond t (order_step C from_order) (rejected 2 reason.Size)) (eq-eqb (length c.order) C.size size_is)
       ∙ order_holds
 
-  lines_written : AreWritten (certificate_lines c)
+  pub lines_written : AreWritten (certificate_lines c)
   lines_written =
       (version_written, (objects_written, (order_written, (value_written, (bound_written, (count_written, AreWritten-append (map cut_line c.cuts) from_tree (cuts_written C.size c.cuts weights.within_limit holds.cuts_are holds.cuts_fit holds.cuts_shaped) (AreWritten-append (tree_lines c.tree) (end_line ∷ []) (tree_written C weights c.cuts c.bound holds.few_cuts [] c.tree holds.tree_is) (end_written, tt))))))))
 

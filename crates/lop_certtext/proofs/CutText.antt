@@ -18,7 +18,7 @@ use Rattle.lop_certtext.specs.CutLine.{numbers_of_objects, cycle_numbers, cut_li
 use Rattle.lop_certtext.proofs.CutTests.{IsCut-is_cut, is_cut-IsCut}
 use Rattle.lop_certtext.proofs.ObjectNumbers.{numbers_of_objects-objects_of, objects_of-below, objects_of-numbers, name_objects-numbers}
 
-abbrev below_n : ℕ → ℕ → Type 0
+abbrev pub below_n : ℕ → ℕ → Type 0
 below_n n a = a < n
 
 pub count_is : (z : ℤ) (n : ℕ) → is_count z ≡ true → nat_abs z ≡ n → z ≡ pos n
@@ -39,10 +39,10 @@ if_cut-passes t cut e right = ap (λ (s : Bool). cond {A = Option CutKind} s (So
 
 -- ---- cycles
 
-record AreSpelled (n : ℕ) (ns : List ℤ) (cs : List Cycle) : Type 0 where
-  numbers : flat_map cycle_numbers cs ≡ ns
-  below : All (below_n n) (flat_map cycle_objects cs)
-  shaped : All IsShapedCycle cs
+pub record AreSpelled (n : ℕ) (ns : List ℤ) (cs : List Cycle) : Type 0 where
+  pub numbers : flat_map cycle_numbers cs ≡ ns
+  pub below : All (below_n n) (flat_map cycle_objects cs)
+  pub shaped : All IsShapedCycle cs
 
 module _ (n : ℕ) (named : Bool) (c : Cycle) (front ns : List ℤ) (is : named ≡ true → (cycle_numbers c ≡ front) × All (below_n n) (cycle_objects c) × IsShapedCycle c) where
   one_cycle : (o : Option (List Cycle)) (cs : List Cycle) → ((ds : List Cycle) → o ≡ Some ds → AreSpelled n ns ds) → with_cycle named c o ≡ Some cs → AreSpelled n (front ++ ns) cs
@@ -61,7 +61,7 @@ module _ (n : ℕ) (named : Bool) (c : Cycle) (front ns : List ℤ) (is : named 
             shaped = All-cons IsShapedCycle c ds first.2 others.shaped;
           }
 
-spelled_cycles : (n : ℕ) (ns : List ℤ) (cs : List Cycle) → cycles_of n ns ≡ Some cs → AreSpelled n ns cs
+pub spelled_cycles : (n : ℕ) (ns : List ℤ) (cs : List Cycle) → cycles_of n ns ≡ Some cs → AreSpelled n ns cs
 spelled_cycles n [] cs e =
     let same : [] ≡ cs = cc in
     subst (λ (l : List Cycle). AreSpelled n [] l) same record { numbers = refl; below = All-nil (below_n n); shaped = All-nil IsShapedCycle }

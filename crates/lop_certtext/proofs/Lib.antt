@@ -9,4 +9,5 @@ pub mod ObjectNumbers
 pub mod CutText
 pub mod NodeText
 pub mod AcceptedText
+pub mod PlainCertificate
 pub mod OnlyTrue

@@ -31,7 +31,7 @@ use Rattle.lop_certtext.proofs.AcceptedText.{ended, length-text_of, lines_from-m
 
 -- ---- rows
 
-row-pieces_reading : (ps : List (List ℕ)) (l : CertLine) → pieces_reading ps ≡ Some l → is_row l.word l.numbers ≡ true
+pub row-pieces_reading : (ps : List (List ℕ)) (l : CertLine) → pieces_reading ps ≡ Some l → is_row l.word l.numbers ≡ true
 row-pieces_reading [] l e = absurd (cc)
 row-pieces_reading (p ∷ ps) l e = by (first_word cert_words p) (numbers_of ps) e
   where
@@ -63,7 +63,7 @@ row-bound : (ns : List ℤ) → is_row Bound ns ≡ true → (ns ≡ only_number
 row-bound (n ∷ []) e = (refl, e)
 row-bound ns e = absurd (false≢true e)
 
-row-cuts : (ns : List ℤ) → is_row Cuts ns ≡ true → (ns ≡ only_number ns ∷ []) × (pos (nat_abs (only_number ns)) ≡ only_number ns) × (nat_abs (only_number ns) ≤ most_cuts)
+pub row-cuts : (ns : List ℤ) → is_row Cuts ns ≡ true → (ns ≡ only_number ns ∷ []) × (pos (nat_abs (only_number ns)) ≡ only_number ns) × (nat_abs (only_number ns) ≤ most_cuts)
 row-cuts (pos n ∷ []) e = (refl, refl, leb-true n most_cuts (and_parts (int_le (pos 0) (pos n)) (int_le (pos n) (pos most_cuts)) e).1)
 row-cuts (negsuc n ∷ []) e = absurd (false≢true e)
 row-cuts ns e = absurd (false≢true e)
@@ -94,7 +94,7 @@ due-bound : (w : CertWord) → is_bound w ≡ true → w ≡ Bound
 due-bound Bound e = refl
 due-bound w e = absurd (false≢true e)
 
-due-cuts : (w : CertWord) → is_cuts w ≡ true → w ≡ Cuts
+pub due-cuts : (w : CertWord) → is_cuts w ≡ true → w ≡ Cuts
 due-cuts Cuts e = refl
 due-cuts w e = absurd (false≢true e)
 

@@ -12,6 +12,7 @@ use Rattle.lop_model.proofs.OrderLemmas.{places_apart}
 use Rattle.lop_cuts.specs.declared.kind.CutKind.{CutKind}
 use Rattle.lop_cuts.specs.declared.kind.CutKind.TheVariants as kind
 use Rattle.lop_cuts.specs.Kind.{IsCut}
+use Rattle.lop_cuts.specs.Lagrangian.{Certifies}
 use Rattle.lop_cuts.proofs.LagrangianLemmas.{AreValid-AreCuts, weight-le-certified}
 use Rattle.lop_certtext.specs.Chains.{reversed, closure_below}
 use Rattle.lop_certtext.specs.LeafLine.{CutTerm, LeafTerms, are_rising, cut_at, terms_in}
@@ -44,12 +45,16 @@ one_way n s a b o la lb ne =
     let apart : place_of s a ≢ place_of s b = places_apart n s a b o la lb ne in
     elim (cases_lt (place_of s a) (place_of s b)) [ inl lt ↦ inl lt | inr ge ↦ inr (omega (arith, apart)) ]
 
--- a leaf bounds the orders that keep its path
-pub leaf_bounds : (C : Matrix) (cuts : List CutKind) (b : ℤ) (path : List Pair) (l : LeafTerms) → All IsCut cuts → IsLeaf C cuts b path l → (s : List ℕ) → IsOrder C.size s → IsLinearExtension s path → weight C s ≤ℤ b
-leaf_bounds C cuts b path l right is s o x =
+-- terms that certify a bound bound the orders that keep the path
+pub certified_bounds : (C : Matrix) (cuts : List CutKind) (b : ℤ) (path : List Pair) (l : LeafTerms) → All IsCut cuts → are_rising 0 (length cuts) l.terms ≡ true → Certifies C (closure_below C.size path) l.scale (terms_in cuts l.terms) b → (s : List ℕ) → IsOrder C.size s → IsLinearExtension s path → weight C s ≤ℤ b
+certified_bounds C cuts b path l right rising certified s o x =
     let terms = terms_in cuts l.terms in
     weight-le-certified C (closure_below C.size path) l.scale terms b s o (extends_closure C.size s path x)
-    (AreValid-AreCuts C.size terms (AreCuts-terms_in cuts l.terms right (numbered-rising 0 (length cuts) l.terms is.rising))) is.certified
+    (AreValid-AreCuts C.size terms (AreCuts-terms_in cuts l.terms right (numbered-rising 0 (length cuts) l.terms rising))) certified
+
+-- so does a leaf
+pub leaf_bounds : (C : Matrix) (cuts : List CutKind) (b : ℤ) (path : List Pair) (l : LeafTerms) → All IsCut cuts → IsLeaf C cuts b path l → (s : List ℕ) → IsOrder C.size s → IsLinearExtension s path → weight C s ≤ℤ b
+leaf_bounds C cuts b path l right is = certified_bounds C cuts b path l right is.rising is.certified
 
 -- a tree bounds the orders that keep its path
 pub tree_bounds : (C : Matrix) (cuts : List CutKind) (b : ℤ) → All IsCut cuts → (path : List Pair) (tree : Tree) → IsTree C cuts b path tree → (s : List ℕ) → IsOrder C.size s → IsLinearExtension s path → weight C s ≤ℤ b

@@ -1,6 +1,6 @@
 -- What the reader answers is the first of the lines to come.
 use Rattle.std.proofs.Common.{◌≡◌, ◌≢◌, ◌⊎◌, ℕ, zero, suc, ◌+◌, ◌-◌, ◌^◌, ◌<◌, ◌≤◌, Bool, true, false, cond, ltb, leb, eqb, ◌&&◌, List, [], ◌∷◌, ◌++◌, length, drop, get_or, Option, None, Some, refl, sym, ◌∙◌, ap, subst, inl, inr, arith, length-append, length-drop, get_or-take}
-use Rattle.std.specs.Prelude.{◌==◌}
+use Rattle.std.specs.Prelude.{◌==◌, IfSome}
 use Rattle.std.specs.List.{slice_split, All}
 use Rattle.std.proofs.lemmas.Bool.{cases_lt, cases_eq, lt-ltb, le-leb, le-ltb}
 use Rattle.std.proofs.lemmas.Bool.Decides.{nat_tests}
@@ -18,7 +18,7 @@ use Rattle.lop_certtext.specs.Answer.{TextLine, ended_line, unended_line, long_l
 use Rattle.lop_check.specs.declared.verdict.Verdict.{Verdict}
 use Rattle.lop_check.specs.declared.verdict.Verdict.TheVariants as verdict
 use Rattle.lop_check.specs.Verdict.{IsVerdict}
-use Rattle.lop_check.specs.Walk.{line_start, lines_to_come, Answers}
+use Rattle.lop_check.specs.Walk.{line_start, lines_to_come, Answers, Advances}
 
 -- ---- bytes cut at LFs
 
@@ -216,6 +216,12 @@ head_ended (Some w) new before now size is holds moved grows limit step v later 
     let first = ended_first w before now placed grows limit size is holds.0 holds.1 in
     let there = subst (λ t. Answers t now (λ rest. step (ended_line now.line ∷ rest)) v) moved later in
     subst (λ l. IsVerdict (step l) v) (sym first.0) (there first.1)
+
+-- a line that was read moves the reader on
+pub head_advances : (old : Option World) (before now : LineState) (size : ℕ) → IsLine old before now (line.Text size true) → HoldsLine now (line.Text size true) → before.count ≤ now.count → now.count ≤ 2 ^ 40 → IfSome old (λ _. Advances before now)
+head_advances None before now size is holds grows limit = tt
+head_advances (Some w) before now size is holds grows limit = λ placed.
+    (placed_after w before now placed grows limit size is holds.0 holds.1, omega (arith, start_after w before now placed grows limit size is holds.0 holds.1))
 
 pub head_unended : (old : Option World) (before now : LineState) (size : ℕ) → IsLine old before now (line.Text size false) → HoldsLine now (line.Text size false)
     → before.count ≤ now.count → now.count ≤ 2 ^ 40

@@ -1,3 +1,14 @@
-pub mod Objects
 pub mod Heads
 pub mod Walk
+pub mod Objects
+pub mod TableLemmas
+pub mod LinkLemmas
+pub mod PathLemmas
+pub mod CutLines
+pub mod Cells
+pub mod Charging
+pub mod Reduced
+pub mod NodeLemmas
+pub mod TreeWalk
+pub mod Results
+pub mod Exact

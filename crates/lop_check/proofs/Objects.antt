@@ -7,7 +7,8 @@ use Rattle.std.proofs.lemmas.Bool.Decides.{nat_tests}
 use Rattle.std.proofs.lemmas.List.{get_or-map, length-map, drop_all}
 use Rattle.std.proofs.lemmas.List.Folds.{list_any_more}
 use Rattle.lop_model.specs.Order.{IsOrder}
-use Rattle.lop_certtext.specs.Answer.{is_order, are_objects, objects_of}
+use Rattle.lop_certtext.specs.CutLine.{objects_of}
+use Rattle.lop_certtext.specs.Answer.{is_order, are_objects}
 
 -- ---- the test, number by number
 

@@ -1,2 +1,7 @@
 pub mod Verdict
 pub mod Walk
+pub mod Table
+pub mod Standing
+pub mod Cycles
+pub mod Charges
+pub mod Nodes

@@ -3,6 +3,7 @@ use Rattle.std.specs.Prelude.{◌≡◌, ℕ, List, ℤ, ⊤}
 use Rattle.lop_desk.specs.Causes.{Rose}
 use Rattle.lop_model.specs.Order.{IsOrder}
 use Rattle.lop_model.specs.Matrix.{Matrix, weight, IsUpperBound}
+use Rattle.lop_certtext.specs.Certificate.{IsCertificateText}
 use Rattle.lop_certtext.specs.Answer.{CheckAnswer, accepted, rejected, too_long}
 use Rattle.lop_check.specs.declared.verdict.Verdict.{Verdict}
 use Rattle.lop_check.specs.declared.verdict.Verdict.TheVariants.{Accepted, Rejected, Failed, TooLong, Memory}
@@ -14,6 +15,14 @@ IsVerdict answer (Rejected line reason) = answer ≡ rejected line reason
 IsVerdict answer TooLong = answer ≡ too_long
 IsVerdict answer Failed = ⊤
 IsVerdict answer Memory = ⊤
+
+-- an accepted text is the text of a true certificate, of at most 2^40 bytes; one that is not accepted is none
+abbrev pub IsExact : Matrix → List ℕ → Verdict → Type 0
+IsExact C bytes (Accepted value bound) = IsCertificateText C bytes value bound
+IsExact C bytes (Rejected line reason) = (value bound : ℤ) → ¬ (IsCertificateText C bytes value bound)
+IsExact C bytes TooLong = (value bound : ℤ) → ¬ (IsCertificateText C bytes value bound)
+IsExact C bytes Failed = ⊤
+IsExact C bytes Memory = ⊤
 
 -- some order of C's objects weighs this
 abbrev pub IsWeighed : Matrix → ℤ → Type 0

@@ -4,9 +4,10 @@ ghost use Rattle.lop_desk.specs.World.{unread};
 ghost use Rattle.lop_desk.specs.Desk.{IsOpen};
 ghost use Rattle.lop_desk.specs.Whole.{OnlyOpens};
 ghost use Rattle.lop_certtext.specs.Answer.{check_answer};
-ghost use Rattle.lop_check.specs.Verdict.{IsVerdict, IsBounded, VerdictCause};
+ghost use Rattle.lop_check.specs.Verdict.{IsVerdict, IsExact, IsBounded, VerdictCause};
 
 use crate::Verdict;
+use crate::node::Proof;
 use crate::reading::Reading;
 use crate::steps::version_step;
 use lop_desk::Desk;
@@ -14,10 +15,12 @@ use lop_model::Weights;
 use std::alloc::{AllocError, Global};
 use std::marker::Model;
 
-/// All the memory that a check of n objects takes: one line and its numbers. A contract sees n.
+/// A room for checks of files of n objects: one line and its numbers, and what grows with the cuts and the path of a
+/// certificate. A contract sees n.
 #[derive(Drop)]
 pub struct CheckRoom {
     reading: Reading,
+    proof: Proof,
     n: u16,
 }
 
@@ -32,12 +35,13 @@ impl Model for CheckRoom {
 }
 
 impl CheckRoom {
-    /// A room for files of n objects.
+    /// A room for files of n objects, with one line and its numbers.
     pub fn new(alloc: Global, n: u16) -> Result<CheckRoom, AllocError>
         ensures { IfOk result (λ room. room ≡ n) }
     {
         let reading = Reading::new(alloc)?;
-        Ok(CheckRoom { reading, n })
+        let proof = Proof::new(alloc);
+        Ok(CheckRoom { reading, proof, n })
     }
 
     /// The number of objects.
@@ -49,11 +53,13 @@ impl CheckRoom {
 }
 
 /// What the checker says of the opened file, which was just opened. The lines are read in turn, one at a time, and the
-/// first test that fails gives line and reason. Cost: O(1) a byte and O(n²), and no memory.
+/// first test that fails gives line and reason. It takes memory for O(n²) numbers, the cuts and the path. Cost: O(1) a
+/// byte, O(n²) a leaf, and O(n² / 64) for each pair of the path behind a leaf.
 pub fn check<D: Desk>(weights: &Weights, desk: &mut D, room: &mut CheckRoom) -> Verdict
     requires opened { IsOpen (D.told desk.old) }
     requires same_n { room.old ≡ weights.now.size }
     ensures answer { IfSome (D.told desk.old) (λ w. IsVerdict (check_answer weights.now (unread w)) result) }
+    ensures exact { IfSome (D.told desk.old) (λ w. IsExact weights.now (unread w) result) }
     ensures bounded { IsBounded weights.now result }
     ensures room { room.new ≡ room.old }
     ensures world { OnlyOpens (D.told desk.old) (D.told desk.new) }
@@ -61,5 +67,8 @@ pub fn check<D: Desk>(weights: &Weights, desk: &mut D, room: &mut CheckRoom) -> 
     ensures cause { VerdictCause (D.faults desk.old) (D.faults desk.new) result }
 {
     room.reading.start();
-    version_step(weights, desk, &mut room.reading)
+    match room.proof.restart(weights.n()) {
+        Ok(()) => version_step(weights, desk, &mut room.reading, &mut room.proof),
+        Err(_) => Verdict::Memory,
+    }
 }

@@ -1,10 +1,20 @@
 //! The independent checker of certificates.
 #![tactic(auto)]
 
+mod charge;
 mod checker;
+mod cut;
+mod cuts;
+mod ladder;
+mod leaf;
+mod node;
 mod numbers;
+mod path;
 mod reading;
 mod steps;
+mod table;
+mod tree;
+mod upper;
 mod verdict;
 
 pub use checker::{CheckRoom, check};

@@ -1,10 +1,11 @@
 // The numbers of an order's line, and what the weights give for them.
 ghost use Rattle.std.specs.Prelude.{◌≡◌, ◌<◌, ◌^◌, ◌==◌, ◌&&◌, int_le, [], true, length, pos, neg_ℤ, ◌≤ℤ◌, nat_abs, slice_index};
 ghost use Rattle.std.specs.List.{list_any};
-ghost use Rattle.lop_model.specs.Matrix.{entry, weight, IsUpperBound};
-ghost use Rattle.lop_model.specs.Bound.{pair_value, pair_bound};
-ghost use Rattle.lop_certtext.specs.Answer.{is_order, objects_of};
+ghost use Rattle.lop_model.specs.Matrix.{weight};
+ghost use Rattle.lop_certtext.specs.Answer.{is_order};
+ghost use Rattle.lop_certtext.specs.CutLine.{objects_of};
 
+use crate::cut::is_object;
 use lop_model::Weights;
 
 // Whether the number is one of these.
@@ -14,13 +15,6 @@ fn is_among(numbers: &[i64], number: i64) -> bool
     numbers
         .iter()
         .any(|other| other.unsigned_abs() == number.unsigned_abs())
-}
-
-// Whether the number is one of 1 to n.
-fn is_object(number: i64, n: u16) -> bool
-    ensures { result ≡ (int_le (pos 1) number && int_le number (pos n)) }
-{
-    1 <= number && number <= i64::from(n)
 }
 
 // Whether the numbers are an order of 1 to n. O(n²).
@@ -77,27 +71,4 @@ pub fn weight_of(weights: &Weights, numbers: &[i64]) -> i64
     ensures { result ≡ weight weights.now (objects_of numbers.now) }
 {
     sum_in_order(weights, numbers) as i64
-}
-
-// The greater of the two entries of a pair.
-fn greater_entry(weights: &Weights, i: u16, j: u16) -> i64
-    requires first { i < weights.now.size }
-    requires second { j < weights.now.size }
-    ensures { result ≡ pair_value [] (entry weights.now) i j }
-{
-    weights.at(i, j).max(weights.at(j, i))
-}
-
-// The number U of a leaf with scale 1 and no terms: no order weighs more. O(n²).
-pub fn leaf_bound(weights: &Weights) -> i128
-    ensures value { result ≡ pair_bound weights.now [] }
-    ensures bound { IsUpperBound weights.now result }
-{
-    let mut upper: i128 = 0;
-    for j in 0..weights.n() {
-        for i in 0..j {
-            upper += i128::from(greater_entry(weights, i, j));
-        }
-    }
-    upper
 }

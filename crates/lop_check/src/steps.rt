@@ -2,12 +2,15 @@
 ghost use Rattle.std.specs.Prelude.{◌≡◌, ◌≤◌, ◌^◌, ℕ, List};
 ghost use Rattle.lop_desk.specs.Desk.{IsOpen};
 ghost use Rattle.lop_desk.specs.Whole.{OnlyOpens};
-ghost use Rattle.lop_model.specs.Matrix.{Matrix, weight, IsUpperBound};
-ghost use Rattle.lop_certtext.specs.Answer.{end_step, leaf_step, cuts_step, bound_step, value_step, order_step, objects_step};
+ghost use Rattle.lop_model.specs.Matrix.{weight};
+ghost use Rattle.lop_certtext.specs.Answer.{cuts_step, bound_step, value_step, order_step, objects_step};
 ghost use Rattle.lop_check.specs.Verdict.{IsBounded, IsWeighed, VerdictCause};
 ghost use Rattle.lop_check.specs.Walk.{Answers, version_step};
+ghost use Rattle.lop_check.specs.Nodes.{IsFresh};
 
-use crate::numbers::{are_order, leaf_bound, weight_of};
+use crate::cuts::cuts_left_step;
+use crate::node::Proof;
+use crate::numbers::{are_order, weight_of};
 use crate::reading::{Reading, rejected};
 use crate::{Reason, Verdict};
 use lop_certtext::CertWord;
@@ -15,9 +18,15 @@ use lop_desk::Desk;
 use lop_model::Weights;
 
 // `lopcert 1`, and then the number of objects.
-pub fn version_step<D: Desk>(weights: &Weights, desk: &mut D, reading: &mut Reading) -> Verdict
+pub fn version_step<D: Desk>(
+    weights: &Weights,
+    desk: &mut D,
+    reading: &mut Reading,
+    proof: &mut Proof,
+) -> Verdict
     requires opened { IsOpen (D.told desk.old) }
     requires limit { reading.old.lines.count ≤ 2 ^ 40 }
+    requires fresh { IsFresh weights.now.size proof.old }
     ensures answer { Answers (D.told desk.old) reading.old.lines (version_step weights.now) result }
     ensures bounded { IsBounded weights.now result }
     ensures world { OnlyOpens (D.told desk.old) (D.told desk.new) }
@@ -26,14 +35,20 @@ pub fn version_step<D: Desk>(weights: &Weights, desk: &mut D, reading: &mut Read
 {
     match reading.expect(desk, CertWord::Version, 1) {
         Err(verdict) => verdict,
-        Ok(()) => objects_step(weights, desk, reading),
+        Ok(()) => objects_step(weights, desk, reading, proof),
     }
 }
 
 // The number of objects is the file's.
-fn objects_step<D: Desk>(weights: &Weights, desk: &mut D, reading: &mut Reading) -> Verdict
+fn objects_step<D: Desk>(
+    weights: &Weights,
+    desk: &mut D,
+    reading: &mut Reading,
+    proof: &mut Proof,
+) -> Verdict
     requires opened { IsOpen (D.told desk.old) }
     requires limit { reading.old.lines.count ≤ 2 ^ 40 }
+    requires fresh { IsFresh weights.now.size proof.old }
     ensures answer { Answers (D.told desk.old) reading.old.lines (objects_step weights.now) result }
     ensures bounded { IsBounded weights.now result }
     ensures world { OnlyOpens (D.told desk.old) (D.told desk.new) }
@@ -44,7 +59,7 @@ fn objects_step<D: Desk>(weights: &Weights, desk: &mut D, reading: &mut Reading)
         Err(verdict) => verdict,
         Ok(()) => {
             if reading.number().unsigned_abs() == u64::from(weights.n()) {
-                order_step(weights, desk, reading)
+                order_step(weights, desk, reading, proof)
             } else {
                 rejected(2, Reason::Size)
             }
@@ -53,9 +68,15 @@ fn objects_step<D: Desk>(weights: &Weights, desk: &mut D, reading: &mut Reading)
 }
 
 // The numbers are an order of 1 to n.
-fn order_step<D: Desk>(weights: &Weights, desk: &mut D, reading: &mut Reading) -> Verdict
+fn order_step<D: Desk>(
+    weights: &Weights,
+    desk: &mut D,
+    reading: &mut Reading,
+    proof: &mut Proof,
+) -> Verdict
     requires opened { IsOpen (D.told desk.old) }
     requires limit { reading.old.lines.count ≤ 2 ^ 40 }
+    requires fresh { IsFresh weights.now.size proof.old }
     ensures answer { Answers (D.told desk.old) reading.old.lines (order_step weights.now) result }
     ensures bounded { IsBounded weights.now result }
     ensures world { OnlyOpens (D.told desk.old) (D.told desk.new) }
@@ -67,7 +88,7 @@ fn order_step<D: Desk>(weights: &Weights, desk: &mut D, reading: &mut Reading) -
         Ok(()) => {
             if are_order(reading.numbers(), weights.n()) {
                 let found = weight_of(weights, reading.numbers());
-                value_step(weights, desk, reading, found)
+                value_step(weights, desk, reading, proof, found)
             } else {
                 rejected(3, Reason::OrderLine)
             }
@@ -80,10 +101,12 @@ fn value_step<D: Desk>(
     weights: &Weights,
     desk: &mut D,
     reading: &mut Reading,
+    proof: &mut Proof,
     found: i64,
 ) -> Verdict
     requires opened { IsOpen (D.told desk.old) }
     requires limit { reading.old.lines.count ≤ 2 ^ 40 }
+    requires fresh { IsFresh weights.now.size proof.old }
     requires weighed { IsWeighed weights.now found }
     ensures answer { (s : List ℕ) → weight weights.now s ≡ found → Answers (D.told desk.old) reading.old.lines (value_step weights.now s) result }
     ensures bounded { IsBounded weights.now result }
@@ -96,7 +119,7 @@ fn value_step<D: Desk>(
         Ok(()) => {
             let stated = reading.number();
             if stated == found {
-                bound_step(weights, desk, reading, stated)
+                bound_step(weights, desk, reading, proof, stated)
             } else {
                 rejected(4, Reason::Value { stated, found })
             }
@@ -109,10 +132,12 @@ fn bound_step<D: Desk>(
     weights: &Weights,
     desk: &mut D,
     reading: &mut Reading,
+    proof: &mut Proof,
     value: i64,
 ) -> Verdict
     requires opened { IsOpen (D.told desk.old) }
     requires limit { reading.old.lines.count ≤ 2 ^ 40 }
+    requires fresh { IsFresh weights.now.size proof.old }
     requires weighed { IsWeighed weights.now value }
     ensures answer { Answers (D.told desk.old) reading.old.lines (bound_step weights.now value) result }
     ensures bounded { IsBounded weights.now result }
@@ -124,21 +149,23 @@ fn bound_step<D: Desk>(
         Err(verdict) => verdict,
         Ok(()) => {
             let bound = reading.number();
-            cuts_step(weights, desk, reading, value, bound)
+            cuts_step(weights, desk, reading, proof, value, bound)
         }
     }
 }
 
-// There are no cuts.
+// The number of cuts.
 fn cuts_step<D: Desk>(
     weights: &Weights,
     desk: &mut D,
     reading: &mut Reading,
+    proof: &mut Proof,
     value: i64,
     bound: i64,
 ) -> Verdict
     requires opened { IsOpen (D.told desk.old) }
     requires limit { reading.old.lines.count ≤ 2 ^ 40 }
+    requires fresh { IsFresh weights.now.size proof.old }
     requires weighed { IsWeighed weights.now value }
     ensures answer { Answers (D.told desk.old) reading.old.lines (cuts_step weights.now value bound) result }
     ensures bounded { IsBounded weights.now result }
@@ -148,53 +175,9 @@ fn cuts_step<D: Desk>(
 {
     match reading.expect(desk, CertWord::Cuts, 6) {
         Err(verdict) => verdict,
-        Ok(()) => leaf_step(weights, desk, reading, value, bound),
-    }
-}
-
-// The pair bound is below the stated bound and one.
-fn leaf_step<D: Desk>(
-    weights: &Weights,
-    desk: &mut D,
-    reading: &mut Reading,
-    value: i64,
-    bound: i64,
-) -> Verdict
-    requires opened { IsOpen (D.told desk.old) }
-    requires limit { reading.old.lines.count ≤ 2 ^ 40 }
-    requires weighed { IsWeighed weights.now value }
-    ensures answer { Answers (D.told desk.old) reading.old.lines (leaf_step weights.now value bound) result }
-    ensures bounded { IsBounded weights.now result }
-    ensures world { OnlyOpens (D.told desk.old) (D.told desk.new) }
-    ensures later { D.faults desk.old ≤ D.faults desk.new }
-    ensures cause { VerdictCause (D.faults desk.old) (D.faults desk.new) result }
-{
-    match reading.expect(desk, CertWord::Leaf, 7) {
-        Err(verdict) => verdict,
         Ok(()) => {
-            let upper = leaf_bound(weights);
-            let limit = i128::from(bound) + 1;
-            if upper < limit {
-                end_step(desk, reading, value, bound)
-            } else {
-                rejected(7, Reason::High { upper, limit })
-            }
+            let count = reading.number().unsigned_abs();
+            cuts_left_step(weights, desk, reading, proof, value, bound, count)
         }
-    }
-}
-
-// The end, behind which nothing may stand.
-fn end_step<D: Desk>(desk: &mut D, reading: &mut Reading, value: i64, bound: i64) -> Verdict
-    requires opened { IsOpen (D.told desk.old) }
-    requires limit { reading.old.lines.count ≤ 2 ^ 40 }
-    ensures answer { Answers (D.told desk.old) reading.old.lines (end_step value bound) result }
-    ensures bounded { (C : Matrix) → IsBounded C (Verdict.Accepted value bound) → IsBounded C result }
-    ensures world { OnlyOpens (D.told desk.old) (D.told desk.new) }
-    ensures later { D.faults desk.old ≤ D.faults desk.new }
-    ensures cause { VerdictCause (D.faults desk.old) (D.faults desk.new) result }
-{
-    match reading.expect(desk, CertWord::End, 8) {
-        Err(verdict) => verdict,
-        Ok(()) => reading.tail_step(desk, value, bound),
     }
 }

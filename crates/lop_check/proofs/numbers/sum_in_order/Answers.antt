@@ -6,7 +6,7 @@ use Rattle.lop_model.specs.Order.{IsOrder}
 use Rattle.lop_model.specs.Matrix.{placed_entry, weight}
 use Rattle.lop_model.proofs.SumLemmas.{sum_below_more, pair_sum_more}
 use Rattle.lop_model.proofs.MatrixLemmas.{weight_within}
-use Rattle.lop_certtext.specs.Answer.{objects_of}
+use Rattle.lop_certtext.specs.CutLine.{objects_of}
 use Rattle.lop_check.proofs.Objects.{IsOrder-objects_of, objects_whole}
 use Rattle.lop_check.proofs.numbers.sum_in_order.Goals as goal
 

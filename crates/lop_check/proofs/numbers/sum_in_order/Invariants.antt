@@ -1,7 +1,7 @@
 use Rattle.std.proofs.Common.{◌≡◌, ◌*◌, ◌+◌, ◌^◌, pos, ◌+ℤ◌, ◌≤ℤ◌, neg_ℤ}
 use Rattle.lop_model.specs.Matrix.{placed_entry}
 use Rattle.lop_model.specs.Sums.{sum_below, pair_sum}
-use Rattle.lop_certtext.specs.Answer.{objects_of}
+use Rattle.lop_certtext.specs.CutLine.{objects_of}
 use Rattle.lop_check.proofs.numbers.sum_in_order.Given as goal
 
 abbrev pub invariant-loop-q : goal.invariant-loop-q

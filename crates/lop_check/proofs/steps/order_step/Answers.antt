@@ -2,7 +2,8 @@ use Rattle.std.proofs.Common.{◌≡◌, ℤ, List, true, false, refl, sym, ◌�
 use Rattle.std.specs.Prelude.{if◌then◌else◌}
 use Rattle.std.proofs.lemmas.Int.{to_z-of_z}
 use Rattle.lop_certtext.specs.declared.reason.Reason.TheVariants as reason
-use Rattle.lop_certtext.specs.Answer.{TextLine, rejected, objects_of, is_order, value_step}
+use Rattle.lop_certtext.specs.CutLine.{objects_of}
+use Rattle.lop_certtext.specs.Answer.{TextLine, rejected, is_order, value_step}
 use Rattle.lop_model.specs.Matrix.{weight}
 use Rattle.lop_check.proofs.Objects.{IsOrder-objects_of}
 use Rattle.lop_check.proofs.Walk.{answers_then, answers_else}

@@ -1,0 +1,108 @@
+-- What a line of the tree does to the pending paths.
+use Rattle.std.proofs.Common.{◌≡◌, ℕ, suc, ◌+◌, ◌*◌, ◌<◌, ◌≤◌, Bool, true, false, cond, ◌&&◌, List, [], ◌∷◌, ◌++◌, append-nil, length, take, drop, drop-cons, get_or, nat_abs, ℤ, pos, ◌≤ℤ◌, ◌<ℤ◌, Option, None, Some, inl, inr, refl, sym, ◌∙◌, ap, arith}
+use Rattle.std.specs.Prelude.{All, int_lt, nat_lt, nat_le}
+use Rattle.std.proofs.lemmas.Int.{ints}
+use Rattle.std.proofs.lemmas.List.{drop_all, take_all}
+use Rattle.lop_model.specs.declared.pair.Pair.{Pair}
+use Rattle.lop_model.specs.Matrix.{Matrix, weight}
+use Rattle.lop_model.specs.Fixings.{IsUndecided}
+use Rattle.lop_cuts.specs.declared.kind.CutKind.{CutKind}
+use Rattle.lop_cuts.specs.Kind.{IsCut}
+use Rattle.lop_certtext.specs.declared.word.CertWord.TheVariants.{SplitLine}
+use Rattle.lop_certtext.specs.Chains.{reversed}
+use Rattle.lop_certtext.specs.LeafLine.{LeafTerms, are_rising, terms_of, is_leaf_row, leaf_of}
+use Rattle.lop_certtext.specs.Answer.{split_of, split_step, leaf_value, leaf_limit}
+use Rattle.lop_certtext.proofs.ChainLemmas.{extends_more, may_split-undecided}
+use Rattle.lop_certtext.proofs.NodeText.{line-split_of}
+use Rattle.lop_certtext.proofs.TreeBounds.{one_way, certified_bounds}
+use Rattle.lop_check.specs.Standing.{Standing, IsFreePair, IsCovered}
+use Rattle.lop_check.specs.Nodes.{follows, StaysCovered, Passes}
+use Rattle.lop_check.proofs.PathLemmas.{IsFreePair-may_split}
+
+-- what a vector holds after all of it was lent
+pub put_back : (new items : List ℕ) (len : ℕ) → length new ≡ length items → len ≡ length items → take len (new ++ drop (length new) items) ≡ new
+put_back new items len e f =
+    ap (λ back. take len (new ++ back)) (drop_all (length new) items (omega arith))
+    ∙ ap (take len) (append-nil new)
+    ∙ take_all len new (omega arith)
+
+-- ---- terms in turn
+
+pub rising_step : (ns : List ℤ) (count last i : ℕ) → 2 * i + 1 < length ns → are_rising last count (terms_of (drop (2 * i) ns)) ≡ (follows ns i last count && are_rising (nat_abs (get_or ns (2 * i) (pos 0))) count (terms_of (drop (2 * (i + 1)) ns)))
+rising_step ns count last i l =
+    let two : suc (suc (2 * i)) ≡ 2 * (i + 1) = omega arith in
+    let one : suc (2 * i) ≡ 2 * i + 1 = omega arith in
+    let first : drop (2 * i) ns ≡ get_or ns (2 * i) (pos 0) ∷ drop (suc (2 * i)) ns = drop-cons ns (2 * i) (pos 0) (omega arith) in
+    let second : drop (suc (2 * i)) ns ≡ get_or ns (suc (2 * i)) (pos 0) ∷ drop (suc (suc (2 * i))) ns = drop-cons ns (suc (2 * i)) (pos 0) (omega arith) in
+    ap (λ (l : List ℤ). are_rising last count (terms_of l)) (first ∙ ap (λ (l : List ℤ). get_or ns (2 * i) (pos 0) ∷ l) second)
+    ∙ ap (λ (k : ℕ). follows_at k && are_rising (nat_abs (get_or ns (2 * i) (pos 0))) count (terms_of (drop (suc (suc (2 * i))) ns))) one
+    ∙ ap (λ (k : ℕ). follows ns i last count && are_rising (nat_abs (get_or ns (2 * i) (pos 0))) count (terms_of (drop k ns))) two
+  where
+    follows_at : ℕ → Bool
+    follows_at k = nat_lt last (nat_abs (get_or ns (2 * i) (pos 0))) && nat_le (nat_abs (get_or ns (2 * i) (pos 0))) count && nat_lt 0 (nat_abs (get_or ns k (pos 0)))
+
+pub none_rising : (ns : List ℤ) (count last k : ℕ) → length ns ≤ k → are_rising last count (terms_of (drop k ns)) ≡ true
+none_rising ns count last k l = ap (λ (xs : List ℤ). are_rising last count (terms_of xs)) (drop_all k ns l)
+
+-- ---- splits
+
+pub free_from_split : (n : ℕ) (path : List Pair) (ns : List ℤ) (p : Pair) → split_of n path ns ≡ Some p → IsFreePair n path p
+free_from_split n path ns p e =
+    let u : IsUndecided n path p.before p.after = (line-split_of n path ns p e).undecided in
+    IsFreePair-may_split n path p u.first u.second (may_split-undecided n path p u)
+
+pub covered_split : (C : Matrix) (b : ℤ) (path : List Pair) (others : List (List Pair)) (p : Pair) → IsFreePair C.size path p → StaysCovered C b (path ∷ others) ((path ++ p ∷ []) ∷ (path ++ reversed p ∷ []) ∷ others)
+covered_split C b path others p free s o h = elim h [
+  | inl x ↦ elim (one_way C.size s p.before p.after o free.first free.second free.differ) [
+    | inl before ↦ inl (extends_more s path p x before)
+    | inr after ↦ inr (inl (extends_more s path (reversed p) x after))
+  ]
+  | inr rest ↦ inr (inr rest)
+]
+
+pub split_passes : (C : Matrix) (cuts : List CutKind) (b : ℤ) (at : Standing) (number : ℕ) (ns : List ℤ) (p : Pair) → split_of C.size at.path ns ≡ Some p → Passes C cuts b at number SplitLine ns ((at.path ++ p ∷ []) ∷ (at.path ++ reversed p ∷ []) ∷ at.others)
+split_passes C cuts b at number ns p e next = ap (λ (o : Option Pair). split_step at.path at.others number o next) e
+
+-- ---- leaves
+
+covered_low : (C : Matrix) (b : ℤ) (paths : List (List Pair)) (s : List ℕ) → weight C s ≤ℤ b → IsCovered C b paths s
+covered_low C b [] s w = w
+covered_low C b (p ∷ ps) s w = inr (covered_low C b ps s w)
+
+pub covered_leaf : (C : Matrix) (cuts : List CutKind) (b : ℤ) (path : List Pair) (others : List (List Pair)) (l : LeafTerms) → All IsCut cuts → are_rising 0 (length cuts) l.terms ≡ true → leaf_value C cuts path l <ℤ leaf_limit l b → StaysCovered C b (path ∷ others) others
+covered_leaf C cuts b path others l right rising less s o h = elim h [
+  | inl x ↦ covered_low C b others s (certified_bounds C cuts b path l right rising less s o x)
+  | inr rest ↦ rest
+]
+
+pub two_front : (xs : List ℤ) → 2 ≤ length xs → xs ≡ get_or xs 0 (pos 0) ∷ get_or xs 1 (pos 0) ∷ drop 2 xs
+two_front [] h = absurd (omega arith)
+two_front (a ∷ []) h = absurd (omega arith)
+two_front (a ∷ b ∷ xs) h = refl
+
+pub leaf_read : (count : ℕ) (xs : List ℤ) → 2 ≤ length xs → is_leaf_row count (nat_abs (get_or xs 0 (pos 0))) (nat_abs (get_or xs 1 (pos 0))) (drop 2 xs) ≡ true → leaf_of count xs ≡ Some (record { scale = nat_abs (get_or xs 0 (pos 0)); terms = terms_of (drop 2 xs) })
+leaf_read count [] h e = absurd (omega arith)
+leaf_read count (a ∷ []) h e = absurd (omega arith)
+leaf_read count (a ∷ b ∷ xs) h e = ap (λ (t : Bool). cond {A = Option LeafTerms} t (Some (record { scale = nat_abs a; terms = terms_of xs })) None) e
+
+pub leaf_not : (count : ℕ) (xs : List ℤ) → 2 ≤ length xs → is_leaf_row count (nat_abs (get_or xs 0 (pos 0))) (nat_abs (get_or xs 1 (pos 0))) (drop 2 xs) ≡ false → leaf_of count xs ≡ None
+leaf_not count [] h e = absurd (omega arith)
+leaf_not count (a ∷ []) h e = absurd (omega arith)
+leaf_not count (a ∷ b ∷ xs) h e = ap (λ (t : Bool). cond {A = Option LeafTerms} t (Some (record { scale = nat_abs a; terms = terms_of xs })) None) e
+
+pub leaf_short : (count : ℕ) (xs : List ℤ) → length xs < 2 → leaf_of count xs ≡ None
+leaf_short count [] h = refl
+leaf_short count (a ∷ []) h = refl
+leaf_short count (a ∷ b ∷ xs) h = absurd (omega arith)
+
+pub less_from_test : (u l x y : ℤ) → u ≡ x → l ≡ y → int_lt u l ≡ true → x <ℤ y
+less_from_test u l x y e f t = less x y (sym (ap (λ (z : ℤ). int_lt z y) (sym e) ∙ ap (λ (z : ℤ). int_lt u z) (sym f) ∙ t))
+  where
+    less : (x y : ℤ) → true ≡ int_lt x y → x <ℤ y
+    less x y t = grind (arith, ints)
+
+pub not_less_from_test : (u l x y : ℤ) → u ≡ x → l ≡ y → int_lt u l ≡ false → y ≤ℤ x
+not_less_from_test u l x y e f t = more x y (sym (ap (λ (z : ℤ). int_lt z y) (sym e) ∙ ap (λ (z : ℤ). int_lt u z) (sym f) ∙ t))
+  where
+    more : (x y : ℤ) → false ≡ int_lt x y → y ≤ℤ x
+    more x y t = grind (arith, ints)

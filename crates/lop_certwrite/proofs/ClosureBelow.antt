@@ -38,8 +38,11 @@ path_below n path h i d l = let u = h.each i d l in (u.first, u.second)
 
 pub IsClosure-closure_below : (n : ℕ) (path : List Pair) → IsBranchingPath n path → IsClosure path (closure_below n path)
 IsClosure-closure_below n path h = record {
-  each = λ a b. (λ t. (leads-chain path a b).0 (leads-closure_below n path a b t), λ r.
-  let within = chain_below n path (path_below n path h) a b r in
-  has_pair-closure_below n path a b within.0 within.1 ∙ (leads-chain path a b).1 r);
+  each = λ a b. (
+    λ t. (leads-chain path a b).0 (leads-closure_below n path a b t),
+    λ r.
+        let within = chain_below n path (path_below n path h) a b r in
+        has_pair-closure_below n path a b within.0 within.1 ∙ (leads-chain path a b).1 r,
+  );
   rising = pairs_of-rising n (leads path);
 }

@@ -46,7 +46,7 @@ module _ {E : Type 0} (core : CoreFields) (whole : WholeTree core.state.nodes) (
     certificate_of core whole,
     is_certificate core whole,
     lines_then old mid new (order_lines core.order core.state.best) (bound_lines (state_bound core.state) (length core.book.cuts) ++ body_lines core.book.cuts core.book.records whole.tree) result (order_done old mid first)
-    (lines_cut mid new (bound_lines (state_bound core.state) (length core.book.cuts)) (body_lines core.book.cuts core.book.records whole.tree) result Q failed (bound_text mid new front)),
+        (lines_cut mid new (bound_lines (state_bound core.state) (length core.book.cuts)) (body_lines core.book.cuts core.book.records whole.tree) result Q failed (bound_text mid new front)),
   )
 
   pub all_written : (old mid late new : Option World) → mid ≡ with_written (text_of (order_lines s v)) old → late ≡ with_written (text_of (bound_lines b k)) mid → WritesAll late new (text_of (body_lines core.book.cuts core.book.records whole.tree)) result → WritesCertificate core old new result
@@ -54,7 +54,7 @@ module _ {E : Type 0} (core : CoreFields) (whole : WholeTree core.state.nodes) (
     certificate_of core whole,
     is_certificate core whole,
     lines_then old mid new (order_lines core.order core.state.best) (bound_lines (state_bound core.state) (length core.book.cuts) ++ body_lines core.book.cuts core.book.records whole.tree) result (order_done old mid first)
-    (lines_then mid late new (bound_lines (state_bound core.state) (length core.book.cuts)) (body_lines core.book.cuts core.book.records whole.tree) result (bound_done mid late second) last),
+        (lines_then mid late new (bound_lines (state_bound core.state) (length core.book.cuts)) (body_lines core.book.cuts core.book.records whole.tree) result (bound_done mid late second) last),
   )
 
 -- what holds of each cut once all are written

@@ -111,9 +111,9 @@ module _ (nodes : List SearchNode) (records : List NodeRecord) (node : ℕ) wher
       ap (λ (s : Standing). line_by nodes records s node) (standing_is nodes node t.0 pair t.1) ∙ ap (λ (x : SearchNode). split_line x.pair) (node_is nodes t.0 t.1.one t.1.one_there) ∙ ap split_line t.1.one_pair in (
         lines_of records a ++ (lines_of records b ++ lines_of_all records rest),
         e ∙ ap (λ (ls : List CertLine). split_line pair ∷ ls) (append_assoc (lines_of records a) (lines_of records b) (lines_of_all records rest))
-        ∙ ap (λ (l : CertLine). l ∷ (lines_of records a ++ (lines_of records b ++ lines_of_all records rest))) (sym line),
+            ∙ ap (λ (l : CertLine). l ∷ (lines_of records a ++ (lines_of records b ++ lines_of_all records rest))) (sym line),
         inr (subst (λ (k : ℕ). IsAt nodes records k (lines_of records a ++ (lines_of records b ++ lines_of_all records rest))) same
-        (record { tree = a; rest = b ∷ rest; is_tree = t.2; pending = at_first node t.0 pair b rest t.1 t.3 p; lines_are = refl })),
+            (record { tree = a; rest = b ∷ rest; is_tree = t.2; pending = at_first node t.0 pair b rest t.1 t.3 p; lines_are = refl })),
       )
 
   leaf_next : (next : ℕ) → is_split (node_at nodes node).standing ≡ false → IsNextUp nodes records node next → (tree : NodeTree) (rest : List NodeTree) (lines : List CertLine) → IsTreeAt nodes node tree → IsPending nodes node rest → lines ≡ lines_of records tree ++ lines_of_all records rest

@@ -6,6 +6,8 @@ mod cut;
 mod head;
 mod leaf;
 mod line;
+#[cfg(test)]
+mod tests;
 mod tree;
 mod walk;
 mod writer;

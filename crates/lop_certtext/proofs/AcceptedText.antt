@@ -203,7 +203,7 @@ cycles_row n (c ∷ cs) small shaped below =
       omega (arith, length-append (cycle_numbers c) (flat_map cycle_numbers cs), length-cycle c first, rest.1),
     )
 
-cut_written : (n : ℕ) (cut : CutKind) → n ≤ 512 → IsCut cut → FitsCut n cut → IsShapedCut cut → IsWritten (cut_line cut)
+pub cut_written : (n : ℕ) (cut : CutKind) → n ≤ 512 → IsCut cut → FitsCut n cut → IsShapedCut cut → IsWritten (cut_line cut)
 cut_written n (kind.Dicycle objects) small right fits shaped =
     let size : length objects ≡ 3 = right.size in
     written (cut_line (kind.Dicycle objects)) (row-objects objects (omega arith) (counts_below n objects small fits)) (omega (arith, length-map objects (λ a. pos (a + 1))))

@@ -1,0 +1,9 @@
+pub mod Growth
+pub mod WalkLemmas
+pub mod LeafLemmas
+pub mod Written
+pub mod Walked
+pub mod ClosureBelow
+pub mod TreeHolds
+pub mod CutLines
+pub mod Pieces

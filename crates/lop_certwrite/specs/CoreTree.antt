@@ -1,0 +1,67 @@
+-- The nodes of a core as the tree of its certificate.
+use Rattle.std.specs.Prelude.{◌≡◌, ℕ, ◌+◌, ◌<◌, List, length, map, slice_get, Some}
+use Rattle.lop_model.specs.declared.pair.Pair.{Pair}
+use Rattle.lop_core.specs.declared.node.SearchNode.{SearchNode}
+use Rattle.lop_core.specs.declared.node.Standing.TheVariants.{Split}
+use Rattle.lop_core.specs.Tree.{reversed, IsOpen}
+use Rattle.lop_core.specs.Records.{NodeRecord, record_at}
+use Rattle.lop_core.specs.Core.{CoreFields}
+use Rattle.lop_core.specs.Machine.{state_bound}
+use Rattle.lop_certtext.specs.LeafLine.{LeafTerms}
+use Rattle.lop_certtext.specs.Tree.{Tree, leaf, split}
+use Rattle.lop_certtext.specs.Certificate.{Certificate}
+
+-- the nodes of a subtree: the number of a node that isn't split, or a pair and the subtrees of two children
+pub data NodeTree : Type 0 where
+  one_node : ℕ → NodeTree
+  two_below : Pair → NodeTree → NodeTree → NodeTree
+
+-- how many nodes a subtree has
+abbrev pub node_count : NodeTree → ℕ
+node_count (one_node number) = 1
+node_count (two_below pair first second) = 1 + (node_count first + node_count second)
+
+-- the node is split into the nodes first and first + 1, by a pair and its reverse
+pub record IsSplitInto (nodes : List SearchNode) (node first : ℕ) (pair : Pair) : Type 0 where
+  pub it : SearchNode
+  pub is_there : slice_get nodes node ≡ Some it
+  pub parted : it.standing ≡ Split first
+  pub later : node < first
+  pub one : SearchNode
+  pub one_there : slice_get nodes first ≡ Some one
+  pub one_parent : one.parent ≡ node
+  pub one_pair : one.pair ≡ pair
+  pub two : SearchNode
+  pub two_there : slice_get nodes (first + 1) ≡ Some two
+  pub two_parent : two.parent ≡ node
+  pub two_pair : two.pair ≡ reversed pair
+
+-- the subtree of a node: the same pairs, each first child before the second, and the nodes that aren't split as leaves
+abbrev pub IsTreeAt : List SearchNode → ℕ → NodeTree → Type 0
+IsTreeAt nodes node (one_node number) = (number ≡ node) × IsOpen nodes node
+IsTreeAt nodes node (two_below pair first second) =
+    (child : ℕ) × IsSplitInto nodes node child pair × IsTreeAt nodes child first × IsTreeAt nodes (child + 1) second
+
+-- a node's record as a leaf has it, where cuts count from 1
+abbrev pub leaf_of_record : NodeRecord → LeafTerms
+leaf_of_record r = record { scale = r.scale; terms = map (λ t. record { cut = t.cut + 1; multiplier = t.multiplier }) r.terms }
+
+-- the tree of a certificate: each leaf has its node's record
+abbrev pub certificate_tree : List NodeRecord → NodeTree → Tree
+certificate_tree records (one_node number) = leaf (leaf_of_record (record_at records number))
+certificate_tree records (two_below pair first second) = split pair (certificate_tree records first) (certificate_tree records second)
+
+-- the whole tree: that of the root, with each node of the list
+pub record WholeTree (nodes : List SearchNode) : Type 0 where
+  pub tree : NodeTree
+  pub is_tree : IsTreeAt nodes 0 tree
+  pub complete : node_count tree ≡ length nodes
+
+-- the certificate of a core: best with its order, the core's bound, its cuts in order, and its tree
+pub record IsCertificateOf (core : CoreFields) (c : Certificate) : Type 0 where
+  pub order_is : c.order ≡ core.order
+  pub value_is : c.value ≡ core.state.best
+  pub bound_is : c.bound ≡ state_bound core.state
+  pub cuts_are : c.cuts ≡ core.book.cuts
+  pub whole : WholeTree core.state.nodes
+  pub tree_is : c.tree ≡ certificate_tree core.book.records whole.tree

@@ -1,0 +1,58 @@
+// The lines from the cuts on.
+ghost use Rattle.std.specs.Prelude.{◌≡◌, ◌≤◌, ◌<◌, ◌^◌, length, map, All, OnOk};
+ghost use Rattle.lop_core.specs.Tree.{AreLinked};
+ghost use Rattle.lop_desk.specs.Desk.{IsMaking};
+ghost use Rattle.lop_desk.specs.Whole.{WritesAll};
+ghost use Rattle.lop_desk.specs.Causes.{HasCause};
+ghost use Rattle.lop_certtext.specs.Certificate.{text_of};
+ghost use Rattle.lop_certtext.specs.CutLine.{cut_line, IsShapedCut};
+ghost use Rattle.lop_certwrite.specs.CoreTree.{WholeTree};
+ghost use Rattle.lop_certwrite.specs.Walk.{body_lines};
+
+use crate::cut::fill_cut;
+use crate::line::{Numbers, write_short_line};
+use crate::tree::write_tree;
+use lop_certtext::CertWord;
+use lop_core::Core;
+use lop_desk::{Desk, DeskFailed, TextRoom};
+
+/// Writes the cuts in the order of their numbers.
+fn write_cuts<D: Desk>(
+    core: &Core,
+    numbers: &mut Numbers,
+    desk: &mut D,
+    room: &mut TextRoom,
+) -> Result<(), DeskFailed>
+    requires making { IsMaking (D.told desk.old) }
+    requires few_objects { core.now.problem.weights.size ≤ 512 }
+    ensures effect { WritesAll (D.told desk.old) (D.told desk.new) (text_of (map cut_line core.now.book.cuts)) result }
+    ensures shaped { OnOk result (All IsShapedCut core.now.book.cuts) }
+    ensures cause { HasCause (D.faults desk.old) (D.faults desk.new) result }
+{
+    for index in 0..core.cuts() {
+        let word = fill_cut(core.cut(index), numbers);
+        write_short_line(word, numbers, desk, room)?;
+    }
+    Ok(())
+}
+
+/// Writes the cuts, the tree and the end.
+pub fn write_body<D: Desk>(
+    core: &Core,
+    numbers: &mut Numbers,
+    desk: &mut D,
+    room: &mut TextRoom,
+) -> Result<(), DeskFailed>
+    requires making { IsMaking (D.told desk.old) }
+    requires few_objects { core.now.problem.weights.size ≤ 512 }
+    requires whole { WholeTree core.now.state.nodes }
+    requires linked { AreLinked core.now.state.nodes }
+    requires few_cuts { length core.now.book.cuts ≤ 65536 }
+    ensures effect { (whole : WholeTree core.now.state.nodes) → WritesAll (D.told desk.old) (D.told desk.new) (text_of (body_lines core.now.book.cuts core.now.book.records whole.tree)) result }
+    ensures shaped { OnOk result (All IsShapedCut core.now.book.cuts) }
+    ensures cause { HasCause (D.faults desk.old) (D.faults desk.new) result }
+{
+    write_cuts(core, numbers, desk, room)?;
+    write_tree(core, numbers, desk, room)?;
+    write_short_line(CertWord::End, &[], desk, room)
+}

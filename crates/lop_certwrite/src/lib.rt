@@ -1,0 +1,15 @@
+//! The writer of certificates: the text of what a search has shown.
+#![tactic(auto)]
+
+mod body;
+mod cut;
+mod head;
+mod leaf;
+mod line;
+#[cfg(test)]
+mod tests;
+mod tree;
+mod walk;
+mod writer;
+
+pub use writer::write_certificate;

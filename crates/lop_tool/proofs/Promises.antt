@@ -26,7 +26,7 @@ use Rattle.lop_tool.specs.declared.reply.Reply.TheVariants.{Refused, Solved, Che
 use Rattle.lop_tool.specs.AnswerText.{is_optimal, gen_text}
 use Rattle.lop_tool.specs.Input.{input_named, reading_of, order_named, order_reading_of}
 use Rattle.lop_tool.specs.Reply.{IsSolution, reply_status, outcome_status, outcome_text, refusal_line}
-use Rattle.lop_tool.specs.Run.{settled, IsSolved, Ended, replied, cut_off, faulted, lacked, Answers, Faulted, PrintsOnly, IsChecked, IsBounded, IsRejection, IsRejected, IsRefused, PrintsRejection, PrintsRefusal, answer_of, certificate_of, ExactlyWhere, SolvesFile, AcceptsCertificate, Accepts, EndsBy, IsComplete, Refuses, input_file, input_at, WeighsOrder, Weighs, GeneratesWeights, Generates, IsGenerated, IsWeighedOrder, IsRefusedOrder}
+use Rattle.lop_tool.specs.Run.{settled, IsSolved, Ended, replied, cut_off, faulted, lacked, Answers, Faulted, PrintsOnly, IsChecked, IsBounded, IsRejection, IsRejected, IsRefused, PrintsRejection, PrintsRefusal, answer_of, certificate_of, ExactlyWhere, SolvesFile, AcceptsCertificate, Accepts, EndsBy, IsComplete, Refuses, input_file, input_at, WeighsOrder, GeneratesWeights, IsWeighedOrder, IsRefusedOrder}
 
 -- ---- statuses
 

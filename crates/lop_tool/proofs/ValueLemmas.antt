@@ -8,7 +8,7 @@ use Rattle.lop_tool.specs.declared.reply.Refusal.TheVariants.{Words, Input, Orde
 use Rattle.lop_tool.specs.declared.reply.Reply.{Reply}
 use Rattle.lop_tool.specs.declared.reply.Reply.TheVariants.{Refused, Solved, Checked, Valued, Generated}
 use Rattle.lop_tool.specs.Input.{input_named, order_named, order_reading_of, order_file_reading}
-use Rattle.lop_tool.specs.Run.{AnswersValue, IsWeighedOrder, IsRefusedOrder}
+use Rattle.lop_tool.specs.Run.{AnswersValue, IsWeighedOrder}
 use Rattle.lop_tool.specs.ValueSteps.{HasWeight, WeighsNamed}
 use Rattle.lop_tool.proofs.CheckLemmas.{same_files}
 

@@ -44,7 +44,9 @@ fn keep<D: Desk>(
             ..
         } => match reply {
             Reply::Solved(x) => write_certificate(x, name.text(), desk, room),
-            Reply::Refused(_) | Reply::Checked(_) | Reply::Valued(_) | Reply::Generated(_) => Ok(()),
+            Reply::Refused(_) | Reply::Checked(_) | Reply::Valued(_) | Reply::Generated(_) => Ok(
+                (),
+            ),
         },
         Command::Solve { cert: None, .. }
         | Command::Check { .. }

@@ -5,7 +5,9 @@ ghost use Rattle.lop_desk.specs.Causes.{HasCause};
 ghost use Rattle.lop_tool.specs.Reply.{refusal_words, refusal_line, refusal_status, reply_text, reply_status, outcome_text, outcome_status, solved_status, IsPrintable};
 
 use crate::refused::{put_input_refusal, put_order_refusal};
-use crate::report::{Answer, print_accepted, print_answer, print_generated, print_rejected, print_value};
+use crate::report::{
+    Answer, print_accepted, print_answer, print_generated, print_rejected, print_value,
+};
 use lop_check::Reason;
 use lop_desk::{Desk, DeskFailed, TextRoom, print_all};
 use lop_lolib::{LolibRefusal, OrderRefusal};

@@ -47,12 +47,12 @@ fn texts(rt: HostRuntime) -> Result<(), Fail> {
         (
             SECTORS,
             0,
-            b"objects 3\norder 1 2 3\nvalue 10\nbound 10\nstatus optimal\nnodes 5\ntotal 16\nlinearity 0.6250\n",
+            b"objects 3\norder 1 2 3\nvalue 10\nbound 10\nstatus optimal\nnodes 1\ntotal 16\nlinearity 0.6250\n",
         ),
         (
             b"3\n0 2 0\n0 0 2\n2 0 0\n",
             0,
-            b"objects 3\norder 1 2 3\nvalue 4\nbound 4\nstatus optimal\nnodes 5\ntotal 6\nlinearity 0.6666\n",
+            b"objects 3\norder 1 2 3\nvalue 4\nbound 4\nstatus optimal\nnodes 1\ntotal 6\nlinearity 0.6666\n",
         ),
         (
             b"2\n0 500000000000000000\n500000000000000000 0\n",
@@ -127,22 +127,41 @@ fn values_of_orders(rt: HostRuntime) -> Result<(), Fail> {
     Ok(())
 }
 
+/// Weight 2 on the nine arcs of a 3-fence.
+const FENCE: &[u8] =
+    b"6\n0 0 0 2 0 0\n0 0 0 0 2 0\n0 0 0 0 0 2\n0 2 2 0 0 0\n2 0 2 0 0 0\n2 2 0 0 0 0\n";
+
+// The root is split on objects 1 and 2, and in each child one packing step takes 2 off the 18.
 #[test]
 fn a_spent_budget(rt: HostRuntime) -> Result<(), Fail> {
     let alloc = rt.alloc();
-    let mut memory = desk(alloc, SECTORS, &[], 1000)?;
+    let mut memory = desk(alloc, FENCE, &[], 1000)?;
     let words = ["solve", "lolib", "a", "--nodes", "3"];
     assert_eq!(rt; status(alloc, &words, &mut memory)?, 6);
     let printed =
-        b"objects 3\norder 1 2 3\nvalue 10\nbound 12\nstatus spent\nnodes 3\ntotal 16\nlinearity 0.6250\n";
+        b"objects 6\norder 4 5 3 6 1 2\nvalue 14\nbound 16\nstatus spent\nnodes 3\ntotal 18\nlinearity 0.7777\n";
     assert_eq!(rt; memory.printed(), printed.as_slice());
+    Ok(())
+}
+
+#[test]
+fn generated_twice(rt: HostRuntime) -> Result<(), Fail> {
+    let alloc = rt.alloc();
+    let words = ["gen", "7", "20"];
+    let mut first = MemoryDesk::new(alloc, Vec::new(alloc), Vec::new(alloc), 1000)?;
+    let mut second = MemoryDesk::new(alloc, Vec::new(alloc), Vec::new(alloc), 1000)?;
+    let ends = status(alloc, &words, &mut first)?;
+    assert!(rt; ends == 0 || ends == 6, "{ends}");
+    assert_eq!(rt; status(alloc, &words, &mut second)?, ends);
+    assert_eq!(rt; first.printed(), second.printed());
+    assert!(rt; first.printed().starts_with(b"seed 7\nobjects 20\nvalue "));
     Ok(())
 }
 
 #[test]
 fn words_that_are_no_command(rt: HostRuntime) -> Result<(), Fail> {
     let alloc = rt.alloc();
-    let cases: [&[&str]; 20] = [
+    let cases: [&[&str]; 24] = [
         &[],
         &["solve"],
         &["solve", "lolib"],
@@ -160,6 +179,10 @@ fn words_that_are_no_command(rt: HostRuntime) -> Result<(), Fail> {
         &["solve", "lolib", "a", "--nodes", "3", "--cert", "c"],
         &["check", "lolib", "a"],
         &["check", "lolib", "a", "-c"],
+        &["gen", "7"],
+        &["gen", "07", "20"],
+        &["gen", "7", "513"],
+        &["gen", "7", "20", "x"],
         &["value", "lolib", "a"],
         &["value", "lolib", "a", "o", "o"],
         &["--help"],
@@ -184,7 +207,7 @@ fn calls_that_fail(rt: HostRuntime) -> Result<(), Fail> {
         (
             &[11],
             1000,
-            b"objects 3\norder 1 2 3\nvalue 10\nbound 10\nstatus optimal\nnodes 5\ntotal 16\n",
+            b"objects 3\norder 1 2 3\nvalue 10\nbound 10\nstatus optimal\nnodes 1\ntotal 16\n",
         ),
         (&[], 12, b"objects 3\nor"),
     ];

@@ -1,7 +1,6 @@
-use Rattle.std.proofs.Common.{◌≡◌, ◌≤◌, [], ◌≤ℤ◌, FitsSigned, rules, sym, ◌∙◌, ap, subst, arith, inl, inr}
+use Rattle.std.proofs.Common.{◌≡◌, FitsSigned, rules, ap, arith, inl, inr}
 use Rattle.std.proofs.lemmas.Int.{to_z-of_z}
 use mir.Syntax.{w128}
-use Rattle.lop_leaf.specs.Packing.{packing_bound}
 use Rattle.lop_core.specs.Machine.{Problem}
 use Rattle.lop_tool.proofs.solve.finish.Goals as goal
 

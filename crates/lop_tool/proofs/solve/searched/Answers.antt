@@ -1,4 +1,4 @@
-use Rattle.std.proofs.Common.{◌∙◌, ℕ, List, ap, arith}
+use Rattle.std.proofs.Common.{◌∙◌, ℕ, List, [], ◌≤ℤ◌, ap, subst, arith}
 use Rattle.std.proofs.lemmas.Int.{ints}
 use Rattle.lop_model.specs.Matrix.{weight}
 use Rattle.lop_leaf.specs.Packing.{packing_bound}

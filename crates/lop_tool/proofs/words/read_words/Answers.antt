@@ -1,4 +1,4 @@
-use Rattle.std.proofs.Common.{◌≡◌, ◌<◌, List, [], ◌∷◌, ℕ, None, refl, length, map, arith, String, Global}
+use Rattle.std.proofs.Common.{◌≡◌, ◌<◌, List, [], ◌∷◌, None, refl, length, map, arith, String, Global}
 use Rattle.std.specs.String.{string_bytes}
 use Rattle.lop_tool.specs.Command.{command_of}
 use Rattle.lop_tool.proofs.words.read_words.Goals as goal

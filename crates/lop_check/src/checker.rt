@@ -54,7 +54,7 @@ impl CheckRoom {
 
 /// What the checker says of the opened file, which was just opened. The lines are read in turn, one at a time, and the
 /// first test that fails gives line and reason. It takes memory for O(n²) numbers, the cuts and the path. Cost: O(1) a
-/// byte, O(n²) a leaf, and O(n² / 64) for each pair of the path behind a leaf.
+/// byte, O(n² + arcs of its terms) a leaf, and O(n² / 64) for each pair of the path behind a leaf.
 pub fn check<D: Desk>(weights: &Weights, desk: &mut D, room: &mut CheckRoom) -> Verdict
     requires opened { IsOpen (D.told desk.old) }
     requires same_n { room.old ≡ weights.now.size }

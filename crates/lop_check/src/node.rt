@@ -1,5 +1,5 @@
 // A line of the tree: a split goes down, and a leaf goes on to the next subtree.
-ghost use Rattle.std.specs.Prelude.{◌≡◌, ◌≤◌, ◌*◌, ℕ, List, pos, ◌+ℤ◌, ◌*ℤ◌, true, length, IfOk, IfErr, IsTrue, OnOk, MatchOption, Some, None};
+ghost use Rattle.std.specs.Prelude.{◌≡◌, ◌≤◌, ◌*◌, ℕ, List, [], pos, ◌+ℤ◌, ◌*ℤ◌, true, length, IfOk, IfErr, IsTrue, OnOk, MatchOption, Some, None};
 ghost use Rattle.lop_model.specs.declared.pair.Pair.{Pair};
 ghost use Rattle.lop_model.specs.Matrix.{Matrix};
 ghost use Rattle.lop_certtext.specs.declared.word.CertWord.TheVariants as words;
@@ -33,7 +33,10 @@ pub struct Proof {
 
 impl Proof {
     // With nothing in it.
-    pub fn new(alloc: Global) -> Proof {
+    pub fn new(alloc: Global) -> Proof
+        ensures cuts { result.cuts.items ≡ [] }
+        ensures steps { result.steps.items ≡ [] }
+    {
         Proof {
             cuts: Vec::new(alloc),
             steps: Vec::new(alloc),

@@ -127,7 +127,7 @@ fn value_step<D: Desk>(
     }
 }
 
-// Any bound may be stated; the leaf has to meet it.
+// Any bound may be stated; the leaves have to meet it.
 fn bound_step<D: Desk>(
     weights: &Weights,
     desk: &mut D,

@@ -15,10 +15,9 @@ fn desk(alloc: Global, text: &str) -> Result<MemoryDesk, AllocError> {
     MemoryDesk::new(alloc, files, Vec::new(alloc), 0)
 }
 
-// What the checker says of a text, for the weights 0 2 0, 0 0 2, 2 0 0.
-fn verdict(alloc: Global, text: &str) -> Result<Verdict, Fail> {
-    let entries: [i64; 9] = [0, 2, 0, 0, 0, 2, 2, 0, 0];
-    let Ok(weights) = Weights::new(3, entries.as_slice().to_vec(alloc)?) else {
+// What the checker says of a text, for these weights of n objects.
+fn verdict_for(alloc: Global, n: u16, entries: &[i64], text: &str) -> Result<Verdict, Fail> {
+    let Ok(weights) = Weights::new(n, entries.to_vec(alloc)?) else {
         return Ok(Verdict::Memory);
     };
     let mut room = CheckRoom::new(alloc, weights.n())?;
@@ -27,6 +26,25 @@ fn verdict(alloc: Global, text: &str) -> Result<Verdict, Fail> {
         return Ok(Verdict::Memory);
     }
     Ok(check(&weights, &mut memory, &mut room))
+}
+
+// For 0 2 0, 0 0 2, 2 0 0.
+fn verdict(alloc: Global, text: &str) -> Result<Verdict, Fail> {
+    verdict_for(alloc, 3, &[0, 2, 0, 0, 0, 2, 2, 0, 0], text)
+}
+
+// The 3-fence with weight 2 on its nine arcs; the text goes on with the line of its cut.
+fn fence_verdict(alloc: Global, lines: &str) -> Result<Verdict, Fail> {
+    let entries: [i64; 36] = [
+        0, 0, 0, 2, 0, 0, 0, 0, 0, 0, 2, 0, 0, 0, 0, 0, 0, 2, 0, 2, 2, 0, 0, 0, 2, 0, 2, 0, 0, 0,
+        2, 2, 0, 0, 0, 0,
+    ];
+    let mut text = String::from_str(
+        alloc,
+        "lopcert 1\nobjects 6\norder 4 5 3 6 1 2\nvalue 14\nbound 14\ncuts 1\n",
+    )?;
+    text.push_str(lines)?;
+    verdict_for(alloc, 6, entries.as_slice(), &text)
 }
 
 fn rejected(line: u64, reason: Reason) -> Verdict {
@@ -84,5 +102,65 @@ fn the_first_line_that_fails(rt: HostRuntime) -> Result<(), Fail> {
     for (text, expected) in cases {
         assert_eq!(rt; verdict(rt.alloc(), text)?, expected, "at {text}");
     }
+    Ok(())
+}
+
+#[test]
+fn a_cut_shows_the_bound(rt: HostRuntime) -> Result<(), Fail> {
+    let high = Reason::High { upper: 5, limit: 5 };
+    let cases = [
+        (
+            "leaf 1 1 1 2\nend\n",
+            Verdict::Accepted { value: 4, bound: 4 },
+        ),
+        ("leaf 1 1 1 1\nend\n", rejected(8, high)),
+        (
+            "split 1 2\nsplit 2 1\nend\n",
+            rejected(9, Reason::SplitLine),
+        ),
+        ("leaf 1 2 1 1 1 1\nend\n", rejected(8, Reason::Leaf)),
+        ("leaf 1 1 1 2\n", rejected(9, Reason::Short)),
+        ("leaf 1 1 1 2\nend\nx\n", rejected(10, Reason::Tail)),
+    ];
+    for (lines, expected) in cases {
+        let mut text = String::from_str(
+            rt.alloc(),
+            "lopcert 1\nobjects 3\norder 1 2 3\nvalue 4\nbound 4\ncuts 1\ndicycle 1 2 3\n",
+        )?;
+        text.push_str(lines)?;
+        assert_eq!(rt; verdict(rt.alloc(), &text)?, expected, "at {lines}");
+    }
+    Ok(())
+}
+
+#[test]
+fn a_fence_and_two_wrong_ladders(rt: HostRuntime) -> Result<(), Fail> {
+    let accepted = Verdict::Accepted {
+        value: 14,
+        bound: 14,
+    };
+    let cases = [
+        ("fence 3 1 2 3 4 5 6\nleaf 1 1 1 2\nend\n", accepted),
+        (
+            "ladder 4 3 1 2 3 3 2 1 4 3 4 5 6 3 6 5 3\n",
+            rejected(7, Reason::Cut),
+        ),
+        (
+            "ladder 3 3 1 2 3 3 1 2 4 3 1 2 5\n",
+            rejected(7, Reason::Cut),
+        ),
+    ];
+    for (lines, expected) in cases {
+        assert_eq!(rt; fence_verdict(rt.alloc(), lines)?, expected, "at {lines}");
+    }
+    Ok(())
+}
+
+#[test]
+fn a_tree_of_three_leaves(rt: HostRuntime) -> Result<(), Fail> {
+    let text =
+        "lopcert 1\nobjects 3\norder 1 2 3\nvalue 4\nbound 4\ncuts 0\nsplit 1 2\nsplit 2 3\nleaf 1 0\nleaf 1 0\nleaf 1 0\nend\n";
+    let accepted = Verdict::Accepted { value: 4, bound: 4 };
+    assert_eq!(rt; verdict(rt.alloc(), text)?, accepted);
     Ok(())
 }

@@ -11,6 +11,7 @@ use Rattle.lop_desk.proofs.Printing.{rose_from}
 use Rattle.lop_certtext.specs.Answer.{CheckAnswer, accepted, check_answer}
 use Rattle.lop_certtext.specs.Certificate.{certificate_text}
 use Rattle.lop_certtext.proofs.AcceptedText.{check_answer-certificate_text}
+use Rattle.lop_certtext.proofs.PlainCertificate.{length-plain}
 use Rattle.lop_tool.specs.Input.{input_named, reading_of}
 use Rattle.lop_tool.specs.declared.words.Command.{Command}
 use Rattle.lop_tool.specs.declared.words.Command.TheVariants.{Solve, Check}
@@ -76,7 +77,7 @@ agree_at file name w v new before between now solved checked apart s second late
     let input : input_named v.files file ≡ Some (Ok x.weights) = ap (λ (fs : List NamedFile). input_named fs file) files ∙ ap reading_of (named_put_other made w.files file apart) ∙ s.accepted_file in
     let there : file_named v.files name ≡ Some made.bytes = ap (λ (fs : List NamedFile). file_named fs name) files ∙ named_put made w.files in
     let ends : EndsBy (check_answer x.weights made.bytes) checked = completes (Some (Check file name)) (Some v) new between now checked second x.weights made.bytes input there (λ rose. calm (rose_from before between now later rose)) in
-    let answer : check_answer x.weights made.bytes ≡ accepted x.answer.value x.answer.bound = check_answer-certificate_text x.weights s.solution.weights (certificate_of x) s.certificate in
+    let answer : check_answer x.weights made.bytes ≡ accepted x.answer.value x.answer.bound = check_answer-certificate_text x.weights s.solution.weights (certificate_of x) s.certificate (length-plain x.weights x.order x.answer.value x.answer.bound s.solution.weights s.certificate) in
     let accepts : EndsBy (accepted x.answer.value x.answer.bound) checked = subst (λ (a : CheckAnswer). EndsBy a checked) answer ends in
     elim accepts [ inl same ↦ inl (same ∙ sym s.status_is) | inr five ↦ inr five ]
 

@@ -11,6 +11,7 @@ use Rattle.lop_model.proofs.BoundLemmas.{pair_bound_within}
 use Rattle.lop_certtext.specs.declared.reason.Reason.{Reason}
 use Rattle.lop_certtext.specs.Certificate.{IsTreeCertificate}
 use Rattle.lop_certtext.specs.Answer.{CheckAnswer, accepted, rejected, too_long, check_answer}
+use Rattle.lop_certtext.proofs.PlainCertificate.{IsTreeCertificate-plain}
 use Rattle.lop_tool.specs.declared.words.Command.{Command}
 use Rattle.lop_tool.specs.declared.words.Command.TheVariants.{Solve, Check}
 use Rattle.lop_tool.specs.declared.reply.InputRefusal.{InputRefusal}
@@ -50,13 +51,10 @@ in_64_bits (negsuc n) m high low most = omega (arith, ints)
 tree_certificate : (x : Solution) → IsSolution x.weights x.order x.answer.value x.answer.bound x.answer.nodes → IsTreeCertificate x.weights (certificate_of x)
 tree_certificate x so =
     let weighs = weight_within x.weights x.order so.order in
-    let bounds = pair_bound_within x.weights [] in record {
-      order_is = so.order;
-      value_is = so.value_is;
-      value_fits = rw so.value_is (in_64_bits _ _ weighs.0 weighs.1 so.weights.bounded_sum);
-      bound_fits = rw so.bound_is (in_64_bits _ _ bounds.0 bounds.1 so.weights.bounded_sum);
-      certified = rw so.bound_is (omega (arith, ints));
-    }
+    let bounds = pair_bound_within x.weights [] in
+    let value_fits : nat_abs x.answer.value < 2 ^ 63 = rw so.value_is (in_64_bits _ _ weighs.0 weighs.1 so.weights.bounded_sum) in
+    let bound_fits : nat_abs x.answer.bound < 2 ^ 63 = rw so.bound_is (in_64_bits _ _ bounds.0 bounds.1 so.weights.bounded_sum) in
+    IsTreeCertificate-plain x.weights x.order x.answer.value x.answer.bound so.order so.value_is value_fits bound_fits (omega (arith, ints, so.bound_is))
 
 -- ---- what is known of a certificate is known for sure
 

@@ -6,7 +6,7 @@ use Rattle.lop_desk.specs.Desk.{IsMissing}
 use Rattle.lop_model.specs.Matrix.{Matrix, IsUpperBound}
 use Rattle.lop_certtext.specs.declared.reason.Reason.{Reason}
 use Rattle.lop_check.specs.Verdict.{IsWeighed}
-use Rattle.lop_certtext.specs.Certificate.{Certificate, certificate_text, IsTreeCertificate}
+use Rattle.lop_certtext.specs.Certificate.{Certificate, certificate_text, plain_certificate, IsTreeCertificate}
 use Rattle.lop_certtext.specs.Answer.{CheckAnswer, accepted, rejected, too_long, check_answer}
 use Rattle.lop_tool.specs.declared.words.Command.{Command}
 use Rattle.lop_tool.specs.declared.words.Command.TheVariants.{Solve, Check}
@@ -110,7 +110,7 @@ StopCause command old before now Memory = ⊤
 
 -- the certificate of a solution
 abbrev pub certificate_of : Solution → Certificate
-certificate_of x = record { order = x.order; value = x.answer.value; bound = x.answer.bound }
+certificate_of x = plain_certificate x.order x.answer.value x.answer.bound
 
 -- the file that a solution leaves under a name
 abbrev pub certificate_file : Option (List ℕ) → Solution → Option NamedFile

@@ -41,7 +41,7 @@ below_same u v x y same less equal = omega (arith, ints)
 pub IsTreeCertificate-plain : (C : Matrix) (s : List ℕ) (value bound : ℤ) → IsOrder C.size s → value ≡ weight C s → nat_abs value < 2 ^ 63 → nat_abs bound < 2 ^ 63 → pair_bound C [] <ℤ (bound +ℤ pos 1) → IsTreeCertificate C (plain_certificate s value bound)
 IsTreeCertificate-plain C s value bound order weighs value_fits bound_fits below =
     let certified : Certifies C (closure_below C.size []) 1 [] bound =
-        below_same (lagrangian_value C (closure_below C.size []) 1 []) (pair_bound C []) (bound +ℤ pos 1) (pos 1 *ℤ (bound +ℤ pos 1)) (lagrangian_value-plain C (closure_below C.size []) ∙ pair_bound-no_path C) below (one_times (bound +ℤ pos 1)) in record {
+    below_same (lagrangian_value C (closure_below C.size []) 1 []) (pair_bound C []) (bound +ℤ pos 1) (pos 1 *ℤ (bound +ℤ pos 1)) (lagrangian_value-plain C (closure_below C.size []) ∙ pair_bound-no_path C) below (one_times (bound +ℤ pos 1)) in record {
       order_is = order;
       value_is = weighs;
       value_fits = value_fits;

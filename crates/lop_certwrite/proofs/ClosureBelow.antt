@@ -1,9 +1,9 @@
 -- The list of the pairs between which a branching path leads is its closure.
-use Rattle.std.proofs.Common.{◌≡◌, ℕ, zero, suc, ◌+◌, ◌<◌, true, false, Bool, ◌&&◌, ◌||◌, eqb, cond, List, [], ◌∷◌, length, get_or, arith, sym, ◌∙◌, subst, inl, inr, ◌↔◌, refl}
+use Rattle.std.proofs.Common.{◌≡◌, ℕ, suc, ◌<◌, true, false, Bool, ◌&&◌, ◌||◌, eqb, List, [], ◌∷◌, length, get_or, arith, ◌∙◌, refl}
 use Rattle.std.specs.Prelude.{IsTrue}
-use Rattle.std.proofs.lemmas.Bool.{cases_eq, eqb-true, and_parts}
+use Rattle.std.proofs.lemmas.Bool.{eqb-true}
 use Rattle.lop_model.specs.declared.pair.Pair.{Pair}
-use Rattle.lop_model.specs.Fixings.{has_pair, LeadsTo, one_pair, pair_then, IsClosure, IsBranchingPath, IsUndecided}
+use Rattle.lop_model.specs.Fixings.{has_pair, LeadsTo, one_pair, pair_then, IsClosure, IsBranchingPath}
 use Rattle.lop_fix.proofs.RisingLemmas.{pairs_of-rising}
 use Rattle.lop_certtext.specs.Chains.{leads, closure_below}
 use Rattle.lop_certtext.proofs.PairList.{has_pair-closure_below, leads-closure_below}

@@ -1,7 +1,6 @@
 -- The nodes of every lawful journal's replay are one tree: that of the root, which has each node once.
 use Rattle.std.proofs.Common.{◌≡◌, ◌≢◌, ℕ, ◌+◌, ◌*◌, ◌<◌, ◌≤◌, List, [], ◌∷◌, ◌++◌, length, ◌⊎◌, inl, inr, arith, sym, ◌∙◌, Some, None, Option, refl, ap, subst, Bool, true, false, cond, eqb, length-set, length-append, eq-eqb}
-use Rattle.std.specs.Prelude.{slice_get, ℤ, int_lt, if◌then◌else◌}
-use Rattle.std.specs.Int.{int_max}
+use Rattle.std.specs.Prelude.{slice_get, ℤ, int_lt}
 use Rattle.std.proofs.lemmas.Bool.{cases_eq, eqb-true, ne_eqb}
 use Rattle.std.proofs.lemmas.Option.{slice_get_within, get_or_from_slice_get, same_Some}
 use Rattle.lop_model.specs.declared.pair.Pair.{Pair}
@@ -12,8 +11,8 @@ use Rattle.lop_core.specs.declared.node.Standing.TheVariants.{Idle, Out, Split}
 use Rattle.lop_core.specs.declared.journal.Entry.{Entry}
 use Rattle.lop_core.specs.declared.journal.Entry.TheVariants.{Take, Report}
 use Rattle.lop_core.specs.Tree.{no_pair, reversed, child, node_at, is_split, IsOpen}
-use Rattle.lop_core.specs.Machine.{Problem, SearchState, root_state, after, settled, divided, closed, changed}
-use Rattle.lop_core.specs.Journal.{replay, MayFollow, MayTake, IsLawfulJournal}
+use Rattle.lop_core.specs.Machine.{Problem, SearchState, after, settled, divided, closed, changed}
+use Rattle.lop_core.specs.Journal.{replay, MayFollow, IsLawfulJournal}
 use Rattle.lop_core.specs.Core.{CoreFields, HasHistory}
 use Rattle.lop_model.specs.Bound.{pair_bound}
 use Rattle.lop_core.proofs.Replay.{replay_push}

@@ -1,23 +1,21 @@
 -- The numbers of lines as they are put together, and lines that are short enough.
-use Rattle.std.proofs.Common.{◌≡◌, ℕ, ◌+◌, ◌*◌, ◌^◌, ◌<◌, ◌≤◌, true, List, [], ◌∷◌, ◌++◌, length, map, take, get_or, zero, suc, ℤ, pos, refl, sym, ◌∙◌, ap, subst, arith, append_assoc}
+use Rattle.std.proofs.Common.{◌≡◌, ℕ, ◌+◌, ◌^◌, ◌<◌, ◌≤◌, true, List, [], ◌∷◌, ◌++◌, length, map, take, get_or, suc, ℤ, pos, refl, sym, ◌∙◌, ap, subst, arith, append_assoc}
 use Rattle.std.specs.Prelude.{All, AllPairs}
-use Rattle.std.specs.List.{flat_map, list_all}
+use Rattle.std.specs.List.{flat_map}
 use Rattle.std.proofs.lemmas.Bool.{and_from, lt-ltb, le-leb}
 use Rattle.std.proofs.lemmas.Grind.{flat_map-append}
 use Rattle.std.proofs.lemmas.List.{append-nil, get_or-map, take_more, length-map}
 use Rattle.std.proofs.lemmas.List.Elements.{All-push, All-map}
-use Rattle.std.specs.Prelude.{nat_abs}
 use Rattle.lop_core.specs.declared.records.NumberedTerm.{NumberedTerm}
 use Rattle.lop_core.specs.Records.{NodeRecord, IsNodeRecord}
-use Rattle.lop_certtext.specs.declared.word.CertWord.TheVariants.{SplitLine, Leaf}
-use Rattle.lop_certtext.specs.Line.{CertLine, is_count, is_row, line_text}
+use Rattle.lop_certtext.specs.declared.word.CertWord.TheVariants.{Leaf}
+use Rattle.lop_certtext.specs.Line.{CertLine, is_row, line_text}
 use Rattle.lop_cuts.specs.declared.kind.Cycle.{Cycle}
-use Rattle.lop_cuts.specs.declared.kind.Cycle.TheVariants.{Three}
-use Rattle.lop_certtext.specs.CutLine.{numbers_of_objects, cycle_numbers, IsShapedCycle}
+use Rattle.lop_certtext.specs.CutLine.{cycle_numbers, IsShapedCycle}
 use Rattle.lop_certtext.specs.LeafLine.{CutTerm, LeafTerms, term_numbers, are_rising, leaf_line}
-use Rattle.lop_certtext.proofs.TreeBounds.{IsNumbered, numbered-rising}
+use Rattle.lop_certtext.proofs.TreeBounds.{numbered-rising}
 use Rattle.lop_certtext.proofs.NodeText.{counts-terms, length-leaf_line}
-use Rattle.lop_certtext.proofs.AcceptedText.{IsWritten, written}
+use Rattle.lop_certtext.proofs.AcceptedText.{written}
 use Rattle.lop_certwrite.specs.CoreTree.{leaf_of_record}
 
 -- what the elements of a list give, with one element more

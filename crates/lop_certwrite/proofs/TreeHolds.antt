@@ -1,6 +1,6 @@
 -- The certificate of a core is true: each leaf certifies the core's bound under its path.
-use Rattle.std.proofs.Common.{◌≡◌, ℕ, zero, suc, ◌+◌, ◌-◌, ◌^◌, ◌<◌, ◌≤◌, List, [], ◌∷◌, ◌++◌, length, get_or, map, arith, sym, ◌∙◌, Some, refl, ap, subst, true, ℤ, pos, negsuc, neg_ℤ}
-use Rattle.std.specs.Prelude.{slice_get, ◌≤ℤ◌, ◌<ℤ◌, ◌+ℤ◌, ◌*ℤ◌, nat_abs, fold, All}
+use Rattle.std.proofs.Common.{◌≡◌, ℕ, zero, suc, ◌+◌, ◌-◌, ◌^◌, ◌<◌, ◌≤◌, List, [], ◌∷◌, ◌++◌, length, get_or, map, arith, sym, ◌∙◌, refl, ap, subst, ℤ, pos, negsuc, neg_ℤ}
+use Rattle.std.specs.Prelude.{◌≤ℤ◌, ◌+ℤ◌, ◌*ℤ◌, nat_abs, All}
 use Rattle.std.proofs.lemmas.Int.{ints}
 use Rattle.std.proofs.lemmas.List.{length_push, take_at, get_or_push}
 use Rattle.std.proofs.lemmas.List.Elements.{All-get_or}
@@ -9,30 +9,28 @@ use Rattle.lop_model.specs.declared.pair.Pair.{Pair}
 use Rattle.lop_model.specs.Order.{IsOrder}
 use Rattle.lop_model.specs.Matrix.{Matrix, IsWeights, weight, absolute_total}
 use Rattle.lop_model.specs.Fixings.{IsUndecided, IsBranchingPath}
-use Rattle.lop_model.specs.Bound.{pair_bound}
 use Rattle.lop_model.proofs.MatrixLemmas.{weight_within}
 use Rattle.lop_model.proofs.BoundLemmas.{pair_bound_within}
 use Rattle.lop_cuts.specs.declared.kind.CutKind.{CutKind}
 use Rattle.lop_cuts.specs.declared.kind.CutKind.TheVariants.{Dicycle}
 use Rattle.lop_cuts.specs.Kind.{IsCut, FitsCut}
-use Rattle.lop_cuts.specs.Lagrangian.{Term, lagrangian_value, Certifies}
-use Rattle.lop_leaf.specs.Bound.{CertifiesUnder}
+use Rattle.lop_cuts.specs.Lagrangian.{Term, Certifies}
 use Rattle.lop_leaf.proofs.QuotientLemmas.{scaled-le}
 use Rattle.lop_core.specs.declared.node.SearchNode.{SearchNode}
 use Rattle.lop_core.specs.declared.records.NumberedTerm.{NumberedTerm}
 use Rattle.lop_core.specs.Tree.{reversed, node_at, path_of, IsOpen, AreLinked}
-use Rattle.lop_core.specs.Records.{NodeRecord, IsNodeRecord, IsRecordBook, record_at, scaled_of, cut_at, terms_of}
-use Rattle.lop_core.specs.Machine.{SearchState, state_bound, raised_by}
+use Rattle.lop_core.specs.Records.{NodeRecord, IsNodeRecord, IsRecordBook, record_at, cut_at, terms_of}
+use Rattle.lop_core.specs.Machine.{SearchState, state_bound}
 use Rattle.lop_core.specs.Core.{CoreFields, HasHistory, AreRecorded}
 use Rattle.lop_core.proofs.Replay.{raised-le, raised-each, sound_replay}
 use Rattle.lop_core.proofs.Linked.{core_linked, path_of_root}
 use Rattle.lop_core.proofs.Monotone.{core_from_root}
 use Rattle.lop_certtext.specs.Chains.{closure_below}
 use Rattle.lop_certtext.specs.CutLine.{IsShapedCut}
-use Rattle.lop_certtext.specs.LeafLine.{CutTerm, LeafTerms, terms_in, cut_at as cut_numbered}
+use Rattle.lop_certtext.specs.LeafLine.{terms_in, cut_at as cut_numbered}
 use Rattle.lop_certtext.specs.Tree.{Tree, IsLeaf, IsTree}
 use Rattle.lop_certtext.specs.Certificate.{Certificate, IsTreeCertificate}
-use Rattle.lop_certwrite.specs.CoreTree.{NodeTree, one_node, two_below, IsSplitInto, IsTreeAt, WholeTree, leaf_of_record, certificate_tree, IsCertificateOf}
+use Rattle.lop_certwrite.specs.CoreTree.{NodeTree, one_node, two_below, IsSplitInto, IsTreeAt, leaf_of_record, certificate_tree, IsCertificateOf}
 use Rattle.lop_certwrite.proofs.LeafLemmas.{numbered, record_few, record_rising, record_small}
 use Rattle.lop_certwrite.proofs.ClosureBelow.{IsClosure-closure_below}
 

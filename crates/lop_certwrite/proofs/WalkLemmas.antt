@@ -1,7 +1,7 @@
 -- A step of the walk.
-use Rattle.std.proofs.Common.{◌≡◌, ◌≢◌, ℕ, ◌+◌, ◌<◌, List, [], ◌∷◌, ◌++◌, length, get_or, eqb, inl, inr, arith, sym, ◌∙◌, Some, refl, ap, subst, Bool, true, false, append_assoc, eq-eqb}
+use Rattle.std.proofs.Common.{◌≡◌, ◌≢◌, ℕ, ◌+◌, ◌<◌, List, [], ◌∷◌, ◌++◌, length, inl, inr, arith, sym, ◌∙◌, Some, refl, ap, subst, Bool, true, false, append_assoc, eq-eqb}
 use Rattle.std.specs.Prelude.{slice_get}
-use Rattle.std.proofs.lemmas.Bool.{eqb-true, ne_eqb}
+use Rattle.std.proofs.lemmas.Bool.{ne_eqb}
 use Rattle.std.proofs.lemmas.Option.{slice_get-get_or, slice_get_within, get_or_from_slice_get}
 use Rattle.lop_model.specs.declared.pair.Pair.{Pair}
 use Rattle.lop_core.specs.declared.node.SearchNode.{SearchNode}

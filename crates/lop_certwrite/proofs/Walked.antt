@@ -1,8 +1,6 @@
 -- The walk as it goes on: what is written, and what is left.
-use Rattle.std.proofs.Common.{◌≡◌, ℕ, zero, suc, ◌+◌, ◌<◌, ◌≤◌, List, [], ◌∷◌, ◌++◌, length, length-append, inl, inr, arith, sym, ◌∙◌, refl, ap, subst, append_assoc, Option, Result, IsErrAnd}
-use Rattle.std.proofs.lemmas.Grind.{flat_map-append}
+use Rattle.std.proofs.Common.{◌≡◌, ℕ, suc, ◌+◌, ◌<◌, ◌≤◌, List, [], ◌∷◌, ◌++◌, length, length-append, inl, inr, arith, sym, ◌∙◌, refl, ap, subst, append_assoc, Option, Result, IsErrAnd}
 use Rattle.std.proofs.lemmas.List.{append-nil}
-use Rattle.std.specs.Prelude.{codes}
 use Rattle.lop_core.specs.declared.node.SearchNode.{SearchNode}
 use Rattle.lop_core.specs.declared.node.Standing.TheVariants.{Split}
 use Rattle.lop_core.specs.Tree.{node_at}
@@ -10,10 +8,10 @@ use Rattle.lop_core.specs.Records.{NodeRecord}
 use Rattle.lop_desk.specs.World.{World, with_written}
 use Rattle.lop_desk.specs.Whole.{WritesFront, WritesAll}
 use Rattle.lop_desk.proofs.Worlds.{written_more}
-use Rattle.lop_certtext.specs.Line.{CertLine, line_text}
+use Rattle.lop_certtext.specs.Line.{CertLine}
 use Rattle.lop_certtext.specs.Certificate.{text_of}
-use Rattle.lop_certwrite.specs.CoreTree.{NodeTree, one_node, two_below, node_count, IsTreeAt, WholeTree}
-use Rattle.lop_certwrite.specs.Walk.{at_root, IsAt, IsLeft, IsNext, IsWrittenTo, node_line, lines_of, line_bytes}
+use Rattle.lop_certwrite.specs.CoreTree.{NodeTree, one_node, two_below, node_count, WholeTree}
+use Rattle.lop_certwrite.specs.Walk.{at_root, IsAt, IsNext, IsWrittenTo, node_line, lines_of, line_bytes}
 use Rattle.lop_certwrite.proofs.WalkLemmas.{first_line, tree_inside, first_inside}
 use Rattle.lop_certwrite.proofs.Written.{text_more, writes_cut, writes_then}
 

@@ -15,7 +15,7 @@ use Rattle.lop_certtext.specs.CutLine.{numbers_of_objects, cut_line}
 use Rattle.lop_certtext.specs.LeafLine.{leaf_line}
 use Rattle.lop_certtext.specs.Tree.{tree_lines, split_line}
 use Rattle.lop_certtext.specs.Certificate.{text_of}
-use Rattle.lop_certwrite.specs.CoreTree.{NodeTree, IsSplitInto, IsTreeAt, WholeTree, certificate_tree, leaf_of_record}
+use Rattle.lop_certwrite.specs.CoreTree.{NodeTree, IsSplitInto, IsTreeAt, certificate_tree, leaf_of_record}
 
 -- a node's own line: its pair where it is split, and else its record
 abbrev pub line_by : List SearchNode → List NodeRecord → Standing → ℕ → CertLine

@@ -1,4 +1,4 @@
-use Rattle.std.proofs.Common.{List, [], ◌∷◌, ◌++◌, map}
+use Rattle.std.proofs.Common.{[], ◌∷◌, ◌++◌, map}
 use Rattle.lop_desk.proofs.Worlds.{still_making}
 use Rattle.lop_certtext.specs.declared.word.CertWord.TheVariants.{End}
 use Rattle.lop_certtext.specs.Line.{CertLine}

@@ -2,7 +2,6 @@ use Rattle.std.proofs.Common.{rules, ◌≡◌, ◌<◌, ◌≤◌, true, length
 use Rattle.lop_certtext.specs.Line.{CertLine, is_row}
 use Rattle.lop_certtext.specs.CutLine.{cut_line, IsShapedCut}
 use Rattle.lop_certtext.proofs.AcceptedText.{cut_written}
-use Rattle.lop_cuts.specs.declared.kind.CutKind.{CutKind}
 use Rattle.lop_certwrite.proofs.CutLines.{cuts_cut, cuts_more, shaped_cuts, all_shaped}
 use Rattle.lop_certwrite.proofs.body.write_cuts.Goals as goal
 

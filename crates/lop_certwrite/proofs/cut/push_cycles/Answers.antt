@@ -1,4 +1,4 @@
-use Rattle.std.proofs.Common.{rules, ◌≡◌, ◌+◌, ◌*◌, ◌<◌, ◌≤◌, [], ◌∷◌, length, arith, pos}
+use Rattle.std.proofs.Common.{[], ◌∷◌, length, arith, pos}
 use Rattle.lop_certwrite.proofs.LeafLemmas.{cycle_more, shaped_more}
 use Rattle.lop_certwrite.proofs.cut.push_cycles.Goals as goal
 

@@ -1,4 +1,4 @@
-use Rattle.std.proofs.Common.{rules, ◌≡◌, [], ◌∷◌, pos, FitsSigned, w64, ap, ◌∙◌, to_z, of_z}
+use Rattle.std.proofs.Common.{rules, [], ◌∷◌, pos, FitsSigned, w64}
 use Rattle.std.proofs.lemmas.Int.{to_z-of_z}
 use Rattle.lop_certtext.specs.declared.word.CertWord.TheVariants.{Bound, Cuts}
 use Rattle.lop_certtext.specs.Line.{CertLine}

@@ -1,7 +1,6 @@
-use Rattle.std.proofs.Common.{◌≡◌, ◌≢◌, ◌+◌, ◌<◌, length, arith, ap, sym, ◌∙◌, rules}
+use Rattle.std.proofs.Common.{◌≢◌, ◌<◌, arith, ap, sym, ◌∙◌, rules}
 use Rattle.lop_core.specs.declared.node.NodeView.{NodeView}
-use Rattle.lop_core.specs.Tree.{node_at}
-use Rattle.lop_certwrite.proofs.WalkLemmas.{parent_before, goes_first, goes_up, ends_up}
+use Rattle.lop_certwrite.proofs.WalkLemmas.{parent_before, goes_first, goes_up}
 use Rattle.lop_certwrite.proofs.walk.next_up.Goals as goal
 
 pub overflow_add-result : goal.overflow_add-result

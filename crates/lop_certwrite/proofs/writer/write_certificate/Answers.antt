@@ -1,8 +1,8 @@
-use Rattle.std.proofs.Common.{rules, ◌≡◌, ◌<◌, ◌≤◌, ◌^◌, length, ℤ, FitsSigned, w64, sym, ◌∙◌, refl, subst}
+use Rattle.std.proofs.Common.{rules, ◌<◌, ◌≤◌, ◌^◌, length, ℤ, FitsSigned, w64, sym, ◌∙◌, refl, subst}
 use mir.Syntax.{w128}
 use Rattle.std.specs.Prelude.{nat_abs}
 use Rattle.std.proofs.lemmas.Int.{to_z-of_z}
-use Rattle.lop_model.specs.Matrix.{Matrix, IsWeights}
+use Rattle.lop_model.specs.Matrix.{IsWeights}
 use Rattle.lop_core.specs.Machine.{state_bound}
 use Rattle.lop_core.proofs.Linked.{core_linked}
 use Rattle.lop_certwrite.proofs.Growth.{whole_tree}

@@ -1,24 +1,28 @@
 -- A certificate that was written is accepted by the check that follows.
-use Rattle.std.proofs.Common.{◌≡◌, ◌≢◌, ◌⊎◌, ℕ, ◌≤◌, Bool, true, false, cond, ◌&&◌, List, [], ◌∷◌, Option, None, Some, Ok, refl, sym, ◌∙◌, ap, subst, inl, inr}
+use Rattle.std.proofs.Common.{◌≡◌, ◌≢◌, ◌⊎◌, ℕ, ◌≤◌, Bool, true, false, cond, ◌&&◌, List, [], ◌∷◌, Option, None, Some, Ok, ℤ, refl, sym, ◌∙◌, ap, subst, inl, inr}
 use Rattle.std.specs.Prelude.{codes}
 use Rattle.std.specs.Str.{bytes_eq}
 use Rattle.std.proofs.lemmas.Bool.Decides.{not_from_Decides}
 use Rattle.std.proofs.lemmas.Slice.Eq.{bytes_eq-Decides}
-use Rattle.lop_desk.specs.World.{World, NamedFile, file_named, put_file}
+use Rattle.lop_desk.specs.World.{World, NamedFile, file_named, put_file, with_printed}
 use Rattle.lop_desk.specs.Causes.{Rose}
 use Rattle.lop_desk.proofs.Files.{named_put, named_put_other}
 use Rattle.lop_desk.proofs.Printing.{rose_from}
+use Rattle.lop_core.specs.Core.{CoreFields}
+use Rattle.lop_core.specs.Machine.{state_bound}
 use Rattle.lop_certtext.specs.Answer.{CheckAnswer, accepted, check_answer}
 use Rattle.lop_certtext.specs.Certificate.{certificate_text}
 use Rattle.lop_certtext.proofs.AcceptedText.{check_answer-certificate_text}
-use Rattle.lop_certtext.proofs.PlainCertificate.{length-plain}
 use Rattle.lop_tool.specs.Input.{input_named, reading_of}
 use Rattle.lop_tool.specs.declared.words.Command.{Command}
 use Rattle.lop_tool.specs.declared.words.Command.TheVariants.{Solve, Check, Value, Gen}
 use Rattle.lop_desk.specs.Number.{digits_value}
 use Rattle.lop_tool.specs.Command.{command_of, file_command, gen_command, verb_command, solve_command, check_command, value_command, with_certificate, with_budget, default_budget, is_name_word, is_budget, is_seed, is_size}
-use Rattle.lop_tool.specs.Run.{certificate_of, Solves, Ended, EndsBy}
+use Rattle.lop_tool.specs.Reply.{solution_text}
+use Rattle.lop_tool.specs.Run.{settled, with_file, LeavesCertificate, Solves, Ended, EndsBy}
 use Rattle.lop_tool.specs.Both.{BothEnded, IsRoundTrip, Agree}
+use Rattle.lop_tool.proofs.Budget.{HasBudget-command}
+use Rattle.lop_tool.proofs.CertificateLength.{length-certificate_of}
 use Rattle.lop_tool.proofs.Promises.{solves, completes}
 
 -- ---- the certificate's name isn't the file's
@@ -99,27 +103,33 @@ abbrev the_files : Option World → List NamedFile
 the_files None = []
 the_files (Some w) = w.files
 
-agree_at : (file name : List ℕ) (nodes : ℕ) (w v : World) (new : Option World) (before between now solved checked : ℕ) → name ≢ file → Solves file nodes (Some name) w (Some w) (Some v) solved → Ended (Some (Check file name)) (Some v) new between now checked → before ≤ between
-    → (Rose before now → ⊥) → (checked ≡ solved) ⊎ (checked ≡ 5)
-agree_at file name nodes w v new before between now solved checked apart s second later calm =
-    let x = s.solved in
-    let made : NamedFile = record { name = name; bytes = certificate_text (certificate_of x) } in
-    let files : v.files ≡ put_file made w.files = ap the_files s.left in
-    let input : input_named v.files file ≡ Some (Ok x.weights) = ap (λ (fs : List NamedFile). input_named fs file) files ∙ ap reading_of (named_put_other made w.files file apart) ∙ s.accepted_file in
+agree_at : (file name : List ℕ) (nodes : ℕ) (w v : World) (new : Option World) (before between now solved checked : ℕ) → name ≢ file → nodes ≤ 1000000 → Solves file nodes (Some name) w (Some w) (Some v) solved → Ended (Some (Check file name)) (Some v) new between now checked
+    → before ≤ between → (Rose before now → ⊥) → (checked ≡ solved) ⊎ (checked ≡ 5)
+agree_at file name nodes w v new before between now solved checked apart few s second later calm =
+    let core = s.core in
+    let c = s.left.certificate in
+    let made : NamedFile = record { name = name; bytes = certificate_text c } in
+    let files : v.files ≡ put_file made w.files = ap the_files s.left.has in
+    let input : input_named v.files file ≡ Some (Ok core.problem.weights) = ap (λ (fs : List NamedFile). input_named fs file) files ∙ ap reading_of (named_put_other made w.files file apart) ∙ s.accepted_file in
     let there : file_named v.files name ≡ Some made.bytes = ap (λ (fs : List NamedFile). file_named fs name) files ∙ named_put made w.files in
-    let ends : EndsBy (check_answer x.weights made.bytes) checked = completes (Some (Check file name)) (Some v) new between now checked second x.weights made.bytes input there (λ rose. calm (rose_from before between now later rose)) in
-    let answer : check_answer x.weights made.bytes ≡ accepted x.answer.value x.answer.bound = check_answer-certificate_text x.weights s.solution.weights (certificate_of x) s.certificate (length-plain x.weights x.order x.answer.value x.answer.bound s.solution.weights s.certificate) in
-    let accepts : EndsBy (accepted x.answer.value x.answer.bound) checked = subst (λ (a : CheckAnswer). EndsBy a checked) answer ends in
+    let ends : EndsBy (check_answer core.problem.weights made.bytes) checked = completes (Some (Check file name)) (Some v) new between now checked second core.problem.weights made.bytes input there (λ rose. calm (rose_from before between now later rose)) in
+    let answer : check_answer core.problem.weights made.bytes ≡ accepted c.value c.bound = check_answer-certificate_text core.problem.weights s.solved.searched.weights c s.left.holds (length-certificate_of nodes core c few s.solved s.left.of_core s.left.holds) in
+    let numbers : accepted c.value c.bound ≡ accepted core.state.best (state_bound core.state) = ap (λ (x : ℤ). accepted x c.bound) s.left.of_core.value_is ∙ ap (accepted core.state.best) s.left.of_core.bound_is in
+    let accepts : EndsBy (accepted core.state.best (state_bound core.state)) checked = subst (λ (a : CheckAnswer). EndsBy a checked) (answer ∙ numbers) ends in
     elim accepts [ inl same ↦ inl (same ∙ sym s.status_is) | inr five ↦ inr five ]
 
+-- what stands under a name was left where the files are told
+told_left : (name : List ℕ) (core : CoreFields) (w : World) (text : List ℕ) → LeavesCertificate (Some name) core (λ file. settled None ≡ with_printed text (with_file file (settled (Some w)))) → ⊥
+told_left name core w text left = cc left.has
+
 -- the two runs of a round trip
-round_trip : (file : List ℕ) (name : List ℕ) (nodes : ℕ) (w : World) (mid new : Option World) (before between now solved checked : ℕ) → name ≢ file → Ended (Some (Solve file nodes (Some name))) (Some w) mid before between solved → Ended (Some (Check file name)) mid new between now checked
+round_trip : (file : List ℕ) (name : List ℕ) (nodes : ℕ) (w : World) (mid new : Option World) (before between now solved checked : ℕ) → name ≢ file → nodes ≤ 1000000 → Ended (Some (Solve file nodes (Some name))) (Some w) mid before between solved → Ended (Some (Check file name)) mid new between now checked
     → before ≤ between → (Rose before now → ⊥) → (solved ≡ 0) ⊎ (solved ≡ 6) → (checked ≡ solved) ⊎ (checked ≡ 5)
-round_trip file name nodes w None new before between now solved checked apart first second later calm ends =
+round_trip file name nodes w None new before between now solved checked apart few first second later calm ends =
     let s = solves (Some (Solve file nodes (Some name))) (Some w) None before between solved first ends in
-    absurd (cc s.left)
-round_trip file name nodes w (Some v) new before between now solved checked apart first second later calm ends =
-    agree_at file name nodes w v new before between now solved checked apart (solves (Some (Solve file nodes (Some name))) (Some w) (Some v) before between solved first ends) second later calm
+    absurd (told_left name s.core w (solution_text s.core) s.left)
+round_trip file name nodes w (Some v) new before between now solved checked apart few first second later calm ends =
+    agree_at file name nodes w v new before between now solved checked apart few (solves (Some (Solve file nodes (Some name))) (Some w) (Some v) before between solved first ends) second later calm
 
 trip_names : (first second : Option Command) → IsRoundTrip first second → (file : List ℕ) × (name : List ℕ) × (nodes : ℕ) × (first ≡ Some (Solve file nodes (Some name))) × (second ≡ Some (Check file name))
 trip_names None second trip = absurd trip
@@ -143,6 +153,6 @@ agree words others None new before now solved checked both = tt
 agree words others (Some w) new before now solved checked both = λ trip calm ends.
     let names = trip_names (command_of words) (command_of others) trip in
     let apart : names.1 ≢ names.0 = other_name names.1 names.0 (names_apart words names.0 names.1 names.2 names.3) in
-    round_trip names.0 names.1 names.2 w both.between new before both.faults_between now solved checked apart
+    round_trip names.0 names.1 names.2 w both.between new before both.faults_between now solved checked apart (HasBudget-command words (Solve names.0 names.2 (Some names.1)) names.3).1
     (subst (λ (c : Option Command). Ended c (Some w) both.between before both.faults_between solved) names.3 both.first_ended)
     (subst (λ (c : Option Command). Ended c both.between new both.faults_between now checked) names.4 both.second_ended) both.first_later calm ends

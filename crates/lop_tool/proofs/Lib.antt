@@ -1,10 +1,8 @@
 pub mod Printed
-pub mod Written
-pub mod LineLength
-pub mod CertificateText
 pub mod CheckLemmas
 pub mod Ends
 pub mod Promises
+pub mod CertificateLength
 pub mod Agreement
 pub mod Budget
 pub mod SearchedLemmas

@@ -1,32 +1,26 @@
 -- Each promise of a run, from how it ended.
-use Rattle.std.proofs.Common.{◌≡◌, ◌⊎◌, ℕ, ◌^◌, ◌<◌, Bool, true, false, cond, List, [], Option, None, Some, IfSome, Result, Ok, Err, ℤ, pos, negsuc, neg_ℤ, ◌≤ℤ◌, inl, inr, refl, sym, ◌∙◌, ap, subst, arith}
-use Rattle.std.specs.Prelude.{nat_abs}
-use Rattle.std.proofs.lemmas.Int.{ints}
+use Rattle.std.proofs.Common.{◌≡◌, ◌⊎◌, ℕ, ◌<◌, Bool, true, false, cond, List, Option, None, Some, IfSome, Result, Ok, Err, ℤ, inl, inr, refl, sym, ◌∙◌, ap, subst, arith}
 use Rattle.lop_desk.specs.World.{World, file_named, with_printed}
 use Rattle.lop_desk.specs.Causes.{Rose}
 use Rattle.lop_desk.specs.Desk.{IsMissing}
 use Rattle.lop_model.specs.Matrix.{Matrix}
-use Rattle.lop_model.proofs.MatrixLemmas.{weight_within}
-use Rattle.lop_model.proofs.BoundLemmas.{pair_bound_within}
 use Rattle.lop_certtext.specs.declared.reason.Reason.{Reason}
-use Rattle.lop_certtext.specs.Certificate.{IsTreeCertificate}
 use Rattle.lop_certtext.specs.Answer.{CheckAnswer, accepted, rejected, too_long, check_answer}
-use Rattle.lop_certtext.proofs.PlainCertificate.{IsTreeCertificate-plain}
 use Rattle.lop_tool.specs.declared.words.Command.{Command}
 use Rattle.lop_tool.specs.declared.words.Command.TheVariants.{Solve, Check, Value, Gen}
 use Rattle.lop_tool.specs.declared.reply.InputRefusal.{InputRefusal}
 use Rattle.lop_tool.specs.declared.reply.OrderFileRefusal.{OrderFileRefusal}
 use Rattle.lop_tool.specs.declared.reply.Refusal.{Refusal}
 use Rattle.lop_tool.specs.declared.reply.Refusal.TheVariants.{Words, Input, Order, LongCertificate}
-use Rattle.lop_tool.specs.declared.reply.Solution.{Solution}
 use Rattle.lop_tool.specs.declared.reply.Outcome.{Outcome}
 use Rattle.lop_tool.specs.declared.reply.Outcome.TheVariants.{Accepted, Rejected}
 use Rattle.lop_tool.specs.declared.reply.Reply.{Reply}
 use Rattle.lop_tool.specs.declared.reply.Reply.TheVariants.{Refused, Solved, Checked, Valued, Generated}
-use Rattle.lop_tool.specs.AnswerText.{is_optimal, gen_text}
+use Rattle.lop_core.specs.Machine.{state_bound}
+use Rattle.lop_tool.specs.AnswerText.{is_optimal}
 use Rattle.lop_tool.specs.Input.{input_named, reading_of, order_named, order_reading_of}
-use Rattle.lop_tool.specs.Reply.{IsSolution, reply_status, outcome_status, outcome_text, refusal_line}
-use Rattle.lop_tool.specs.Run.{settled, IsSolved, Ended, replied, cut_off, faulted, lacked, Answers, Faulted, PrintsOnly, IsChecked, IsBounded, IsRejection, IsRejected, IsRefused, PrintsRejection, PrintsRefusal, answer_of, certificate_of, ExactlyWhere, SolvesFile, AcceptsCertificate, Accepts, EndsBy, IsComplete, Refuses, input_file, input_at, WeighsOrder, GeneratesWeights, IsWeighedOrder, IsRefusedOrder}
+use Rattle.lop_tool.specs.Reply.{generation_text, reply_status, outcome_status, outcome_text, refusal_line}
+use Rattle.lop_tool.specs.Run.{settled, Ended, replied, cut_off, faulted, lacked, Answers, Faulted, PrintsOnly, IsChecked, IsBounded, IsRejection, IsRejected, IsRefused, PrintsRejection, PrintsRefusal, answer_of, ExactlyWhere, SolvesFile, AcceptsCertificate, Accepts, EndsBy, IsComplete, Refuses, input_file, input_at, WeighsOrder, GeneratesWeights, IsWeighedOrder, IsRefusedOrder}
 
 -- ---- statuses
 
@@ -42,24 +36,6 @@ not_solved status some less (inr is) = omega arith
 solved_not : (b : Bool) (status k : ℕ) → status ≡ cond b 0 6 → 0 < k → k < 6 → status ≡ k → ⊥
 solved_not true status k is some less same = omega arith
 solved_not false status k is some less same = omega arith
-
--- ---- a solution and its certificate
-
-pub in_64_bits : (x m : ℤ) → x ≤ℤ m → neg_ℤ m ≤ℤ x → m ≤ℤ pos (10 ^ 18) → nat_abs x < 2 ^ 63
-in_64_bits (pos n) m high low most = omega (arith, ints)
-in_64_bits (negsuc n) m high low most = omega (arith, ints)
-
-tree_certificate : (x : Solution) → IsSolution x.weights x.order x.answer.value x.answer.bound x.answer.nodes → IsTreeCertificate x.weights (certificate_of x)
-tree_certificate x so =
-    let weighs = weight_within x.weights x.order so.order in
-    let bounds = pair_bound_within x.weights [] in
-    let value_fits : nat_abs x.answer.value < 2 ^ 63 = rw so.value_is (in_64_bits _ _ weighs.0 weighs.1 so.weights.bounded_sum) in
-    let bound_fits : nat_abs x.answer.bound < 2 ^ 63 = rw so.bound_is (in_64_bits _ _ bounds.0 bounds.1 so.weights.bounded_sum) in
-    IsTreeCertificate-plain x.weights x.order x.answer.value x.answer.bound so.order so.value_is value_fits bound_fits (omega (arith, ints, so.bound_is))
-
-its_certificate : (nodes : ℕ) (cert : Option (List ℕ)) (x : Solution) → IsSolved nodes cert x → IfSome cert (λ _. IsTreeCertificate x.weights (certificate_of x))
-its_certificate nodes None x so = tt
-its_certificate nodes (Some name) x so = tree_certificate x so
 
 -- ---- what is known of a certificate is known for sure
 
@@ -113,10 +89,9 @@ solves (Some (Check file cert)) (Some w) new before now status ended = tt
 solves (Some (Value file order_file)) (Some w) new before now status ended = tt
 solves (Some (Gen seed n)) (Some w) new before now status ended = tt
 solves (Some (Solve file nodes cert)) (Some w) new before now status (replied (Solved x) answers is left) = λ _. record {
-  solved = x;
+  core = x;
   accepted_file = answers.1;
-  solution = answers.0;
-  certificate = its_certificate nodes cert x answers.0;
+  solved = answers.0;
   status_is = is;
   left = left;
 }
@@ -173,7 +148,7 @@ generates None (Some w) new before now status ended = tt
 generates (Some (Solve file nodes cert)) (Some w) new before now status ended = tt
 generates (Some (Check file cert)) (Some w) new before now status ended = tt
 generates (Some (Value file order_file)) (Some w) new before now status ended = tt
-generates (Some (Gen seed n)) (Some w) new before now status (replied (Generated x) answers is left) = λ _. record { generated = x; is_generated = answers; status_is = is; text = left ∙ ap (λ (k : ℕ). with_printed (gen_text k x.weights x.answer.value x.answer.bound x.answer.nodes) (settled (Some w))) answers.seed_is }
+generates (Some (Gen seed n)) (Some w) new before now status (replied (Generated x) answers is left) = λ _. record { generated = x; is_generated = answers; status_is = is; text = left ∙ ap (λ (k : ℕ). with_printed (generation_text k x.core) (settled (Some w))) answers.seed_is }
 generates (Some (Gen seed n)) (Some w) new before now status (replied (Solved x) answers is left) = λ _. absurd answers
 generates (Some (Gen seed n)) (Some w) new before now status (replied (Checked x) answers is left) = λ _. absurd answers
 generates (Some (Gen seed n)) (Some w) new before now status (replied (Valued x) answers is left) = λ _. absurd answers
@@ -183,20 +158,20 @@ generates (Some (Gen seed n)) (Some w) new before now status (faulted is fault l
 generates (Some (Gen seed n)) (Some w) new before now status (lacked is leaves) = λ ends. absurd (not_solved status (omega arith) (omega arith) ends)
 
 pub usage_line : (command : Option Command) (old new : Option World) (before now status : ℕ) → Ended command old new before now status → status ≡ 2 → PrintsOnly old new (refusal_line Words)
-usage_line command old new before now status (replied (Solved x) answers is left) two = absurd (solved_not (is_optimal x.answer.value x.answer.bound) status 2 is (omega arith) (omega arith) two)
+usage_line command old new before now status (replied (Solved x) answers is left) two = absurd (solved_not (is_optimal x.state.best (state_bound x.state)) status 2 is (omega arith) (omega arith) two)
 usage_line command old new before now status (replied (Checked x) answers is left) two = absurd (outcome_not x.outcome status 2 is (omega arith) (omega arith) two)
 usage_line command old new before now status (replied (Refused Words) answers is left) two = left
 usage_line command old new before now status (replied (Refused LongCertificate) answers is left) two = absurd (omega arith)
 usage_line command old new before now status (replied (Refused (Input r)) answers is left) two = absurd (omega arith)
 usage_line command old new before now status (replied (Refused (Order r)) answers is left) two = absurd (omega arith)
 usage_line command old new before now status (replied (Valued x) answers is left) two = absurd (omega arith)
-usage_line command old new before now status (replied (Generated x) answers is left) two = absurd (solved_not (is_optimal x.answer.value x.answer.bound) status 2 is (omega arith) (omega arith) two)
+usage_line command old new before now status (replied (Generated x) answers is left) two = absurd (solved_not (is_optimal x.core.state.best (state_bound x.core.state)) status 2 is (omega arith) (omega arith) two)
 usage_line command old new before now status (cut_off reply n is fault answers left) two = absurd (omega arith)
 usage_line command old new before now status (faulted is fault leaves) two = absurd (omega arith)
 usage_line command old new before now status (lacked is leaves) two = absurd (omega arith)
 
 solve_not_one : (file : List ℕ) (nodes : ℕ) (cert : Option (List ℕ)) (w : World) (reply : Reply) (status : ℕ) → Answers (Some (Solve file nodes cert)) (Some w) reply → status ≡ reply_status reply → status ≡ 1 → ⊥
-solve_not_one file nodes cert w (Solved x) status answers is one = solved_not (is_optimal x.answer.value x.answer.bound) status 1 is (omega arith) (omega arith) one
+solve_not_one file nodes cert w (Solved x) status answers is one = solved_not (is_optimal x.state.best (state_bound x.state)) status 1 is (omega arith) (omega arith) one
 solve_not_one file nodes cert w (Checked x) status answers is one = answers
 solve_not_one file nodes cert w (Refused Words) status answers is one = answers
 solve_not_one file nodes cert w (Refused LongCertificate) status answers is one = answers
@@ -216,7 +191,7 @@ value_not_one file order_file w (Refused (Input r)) status answers is one = omeg
 value_not_one file order_file w (Refused (Order r)) status answers is one = omega arith
 
 gen_not_one : (seed n : ℕ) (w : World) (reply : Reply) (status : ℕ) → Answers (Some (Gen seed n)) (Some w) reply → status ≡ reply_status reply → status ≡ 1 → ⊥
-gen_not_one seed n w (Generated x) status answers is one = solved_not (is_optimal x.answer.value x.answer.bound) status 1 is (omega arith) (omega arith) one
+gen_not_one seed n w (Generated x) status answers is one = solved_not (is_optimal x.core.state.best (state_bound x.core.state)) status 1 is (omega arith) (omega arith) one
 gen_not_one seed n w (Valued x) status answers is one = answers
 gen_not_one seed n w (Solved x) status answers is one = answers
 gen_not_one seed n w (Checked x) status answers is one = answers
@@ -280,8 +255,8 @@ rejects command (Some w) new before now status ended = record {
 
 -- a command has no reply with status 2
 command_not_two : (command : Command) (old : Option World) (reply : Reply) (status : ℕ) → Answers (Some command) old reply → status ≡ reply_status reply → status ≡ 2 → ⊥
-command_not_two command old (Solved x) status answers is two = solved_not (is_optimal x.answer.value x.answer.bound) status 2 is (omega arith) (omega arith) two
-command_not_two command old (Generated x) status answers is two = solved_not (is_optimal x.answer.value x.answer.bound) status 2 is (omega arith) (omega arith) two
+command_not_two command old (Solved x) status answers is two = solved_not (is_optimal x.state.best (state_bound x.state)) status 2 is (omega arith) (omega arith) two
+command_not_two command old (Generated x) status answers is two = solved_not (is_optimal x.core.state.best (state_bound x.core.state)) status 2 is (omega arith) (omega arith) two
 command_not_two command old (Checked x) status answers is two = outcome_not x.outcome status 2 is (omega arith) (omega arith) two
 command_not_two command old (Valued x) status answers is two = omega arith
 command_not_two command old (Refused LongCertificate) status answers is two = omega arith
@@ -317,7 +292,7 @@ refusal_line_of command (Some w) new before now status (cut_off reply n is fault
 refusal_line_of command (Some w) new before now status (faulted is fault leaves) = λ three. absurd (omega arith)
 refusal_line_of command (Some w) new before now status (lacked is leaves) = λ three. absurd (omega arith)
 refusal_line_of None (Some w) new before now status (replied reply answers is left) = λ three. let two : status ≡ 2 = is ∙ ap reply_status answers in absurd (omega arith)
-refusal_line_of (Some (Solve file nodes cert)) (Some w) new before now status (replied (Solved x) answers is left) = λ three. absurd (solved_not (is_optimal x.answer.value x.answer.bound) status 3 is (omega arith) (omega arith) three)
+refusal_line_of (Some (Solve file nodes cert)) (Some w) new before now status (replied (Solved x) answers is left) = λ three. absurd (solved_not (is_optimal x.state.best (state_bound x.state)) status 3 is (omega arith) (omega arith) three)
 refusal_line_of (Some (Solve file nodes cert)) (Some w) new before now status (replied (Checked x) answers is left) = λ three. absurd answers
 refusal_line_of (Some (Solve file nodes cert)) (Some w) new before now status (replied (Valued x) answers is left) = λ three. absurd answers
 refusal_line_of (Some (Solve file nodes cert)) (Some w) new before now status (replied (Generated x) answers is left) = λ three. absurd answers
@@ -341,7 +316,7 @@ refusal_line_of (Some (Check file cert)) (Some w) new before now status (replied
 refusal_line_of (Some (Check file cert)) (Some w) new before now status (replied (Refused Words) answers is left) = λ three. absurd answers
 refusal_line_of (Some (Check file cert)) (Some w) new before now status (replied (Refused LongCertificate) answers is left) = λ three. (LongCertificate, answers, left)
 refusal_line_of (Some (Check file cert)) (Some w) new before now status (replied (Refused (Input r)) answers is left) = λ three. (Input r, answers, left)
-refusal_line_of (Some (Gen seed n)) (Some w) new before now status (replied (Generated x) answers is left) = λ three. absurd (solved_not (is_optimal x.answer.value x.answer.bound) status 3 is (omega arith) (omega arith) three)
+refusal_line_of (Some (Gen seed n)) (Some w) new before now status (replied (Generated x) answers is left) = λ three. absurd (solved_not (is_optimal x.core.state.best (state_bound x.core.state)) status 3 is (omega arith) (omega arith) three)
 refusal_line_of (Some (Gen seed n)) (Some w) new before now status (replied (Valued x) answers is left) = λ three. absurd answers
 refusal_line_of (Some (Gen seed n)) (Some w) new before now status (replied (Solved x) answers is left) = λ three. absurd answers
 refusal_line_of (Some (Gen seed n)) (Some w) new before now status (replied (Checked x) answers is left) = λ three. absurd answers
@@ -442,7 +417,7 @@ not_missing w name input is missing = let none : input_named w.files name ≡ No
 
 solve_ends : (file : List ℕ) (nodes : ℕ) (cert : Option (List ℕ)) (w : World) (C : Matrix) (before now status : ℕ) → input_named w.files file ≡ Some (Ok C) → (Rose before now → ⊥)
     → ((reply : Reply) × Answers (Some (Solve file nodes cert)) (Some w) reply × (status ≡ reply_status reply)) ⊎ (status ≡ 5) ⊎ ((status ≡ 4) × Faulted (Some (Solve file nodes cert)) (Some w) before now) → (status ≡ 0) ⊎ (status ≡ 6) ⊎ (status ≡ 5)
-solve_ends file nodes cert w C before now status input calm (inl (Solved x, answers, is)) = elim (solved_is (is_optimal x.answer.value x.answer.bound) status is) [ inl zero_is ↦ inl zero_is | inr six ↦ inr (inl six) ]
+solve_ends file nodes cert w C before now status input calm (inl (Solved x, answers, is)) = elim (solved_is (is_optimal x.state.best (state_bound x.state)) status is) [ inl zero_is ↦ inl zero_is | inr six ↦ inr (inl six) ]
 solve_ends file nodes cert w C before now status input calm (inl (Checked x, answers, is)) = absurd answers
 solve_ends file nodes cert w C before now status input calm (inl (Valued x, answers, is)) = absurd answers
 solve_ends file nodes cert w C before now status input calm (inl (Generated x, answers, is)) = absurd answers
@@ -503,7 +478,7 @@ value_ends file order_file w C order before now status input there calm (inr (in
 
 gen_ends : (seed n : ℕ) (w : World) (before now status : ℕ) → (Rose before now → ⊥)
     → ((reply : Reply) × Answers (Some (Gen seed n)) (Some w) reply × (status ≡ reply_status reply)) ⊎ (status ≡ 5) ⊎ ((status ≡ 4) × Faulted (Some (Gen seed n)) (Some w) before now) → (status ≡ 0) ⊎ (status ≡ 6) ⊎ (status ≡ 5)
-gen_ends seed n w before now status calm (inl (Generated x, answers, is)) = elim (solved_is (is_optimal x.answer.value x.answer.bound) status is) [ inl zero_is ↦ inl zero_is | inr six ↦ inr (inl six) ]
+gen_ends seed n w before now status calm (inl (Generated x, answers, is)) = elim (solved_is (is_optimal x.core.state.best (state_bound x.core.state)) status is) [ inl zero_is ↦ inl zero_is | inr six ↦ inr (inl six) ]
 gen_ends seed n w before now status calm (inl (Valued x, answers, is)) = absurd answers
 gen_ends seed n w before now status calm (inl (Solved x, answers, is)) = absurd answers
 gen_ends seed n w before now status calm (inl (Checked x, answers, is)) = absurd answers

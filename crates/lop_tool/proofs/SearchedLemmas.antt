@@ -1,21 +1,20 @@
 -- What the core of a finished search says of its weights.
-use Rattle.std.proofs.Common.{◌≡◌, ℕ, [], ◌^◌, ◌<◌, List, ℤ, pos, neg_ℤ, ◌≤ℤ◌, sym, subst, arith}
-use Rattle.std.specs.Prelude.{nat_abs}
+use Rattle.std.proofs.Common.{◌≡◌, ℕ, [], ◌≤◌, List, ◌≤ℤ◌, inl, inr, refl, sym, ap, subst, arith}
 use Rattle.std.proofs.lemmas.Int.{ints}
+use Rattle.lop_model.specs.Order.{IsOrder}
 use Rattle.lop_model.specs.Matrix.{Matrix, IsWeights, weight}
 use Rattle.lop_model.proofs.MatrixLemmas.{weight_within}
-use Rattle.lop_model.proofs.BoundLemmas.{pair_bound_within}
-use Rattle.lop_model.specs.Bound.{pair_bound}
 use Rattle.lop_leaf.specs.Packing.{packing_bound}
 use Rattle.lop_core.specs.Machine.{Problem, state_bound}
-use Rattle.lop_core.specs.Core.{CoreFields, HasHistory}
+use Rattle.lop_core.specs.Tree.{out_count}
+use Rattle.lop_core.specs.Core.{CoreFields, HasHistory, prepared}
 use Rattle.lop_core.specs.Outcome.{IsFinished}
-use Rattle.lop_core.proofs.Alone.{core_outcome, spent_above}
-use Rattle.lop_core.proofs.CoreLemmas.{core_bound}
-use Rattle.lop_core.proofs.Monotone.{core_from_start}
+use Rattle.lop_core.proofs.Alone.{core_outcome, spent_above, bound_closed}
+use Rattle.lop_core.proofs.CoreLemmas.{core_bound, prepared_true}
+use Rattle.lop_core.proofs.Monotone.{core_from_start, core_packed, core_packed_closed}
 use Rattle.lop_climb.specs.StartOrder.{IsBeckerOrder}
-use Rattle.lop_tool.specs.Reply.{IsSearched}
-use Rattle.lop_tool.proofs.Promises.{in_64_bits}
+use Rattle.lop_tool.specs.Reply.{IsPrepared, IsSearched, IsSolved, IsPrintable}
+use Rattle.lop_tool.specs.declared.reply.Reply.TheVariants.{Solved}
 
 of_core : (core : CoreFields) → HasHistory core → IsFinished core.problem core.state → IsWeights core.problem.weights → ((t : List ℕ) → IsBeckerOrder core.problem.weights t → weight core.problem.weights t ≤ℤ core.problem.start)
     → state_bound core.state ≤ℤ packing_bound core.problem.weights [] → IsSearched core.problem.weights core.problem.budget core.order core.state.best (state_bound core.state) core.state.evaluated
@@ -30,34 +29,41 @@ of_core core h f weights starts packed = record {
   packed = packed;
 }
 
-pub searched_by : (C : Matrix) (s : List ℕ) (budget : ℕ) (core : CoreFields) → core.problem ≡ record { weights = C; start = weight C s; budget = budget } → HasHistory core → IsFinished core.problem core.state
-    → IsWeights C → ((t : List ℕ) → IsBeckerOrder C t → weight C t ≤ℤ weight C s) → state_bound core.state ≤ℤ packing_bound C [] → IsSearched C budget core.order core.state.best (state_bound core.state) core.state.evaluated
-searched_by C s budget core same h f weights starts packed =
-    let from : (p : Problem) → core.problem ≡ p → IsWeights p.weights → ((t : List ℕ) → IsBeckerOrder p.weights t → weight p.weights t ≤ℤ p.start) → state_bound core.state ≤ℤ packing_bound p.weights [] → IsSearched p.weights p.budget core.order core.state.best (state_bound core.state) core.state.evaluated =
-    λ p e. subst (λ (q : Problem). IsWeights q.weights → ((t : List ℕ) → IsBeckerOrder q.weights t → weight q.weights t ≤ℤ q.start) → state_bound core.state ≤ℤ packing_bound q.weights [] → IsSearched q.weights q.budget core.order core.state.best (state_bound core.state) core.state.evaluated) e (of_core core h f) in
-    from (record { weights = C; start = weight C s; budget = budget }) same weights starts packed
+-- a finished search was packed: a node was evaluated, or none was live
+finished_packed : (core : CoreFields) → 1 ≤ core.problem.budget → HasHistory core → IsFinished core.problem core.state → state_bound core.state ≤ℤ packing_bound core.problem.weights []
+finished_packed core positive h f = elim f.closed_or_spent [ inl closed ↦ core_packed_closed core h (bound_closed core.state closed) | inr spent ↦ core_packed core h (omega (arith, positive)) ]
 
--- both numbers are at most 10^18 in absolute value
-pub record HasSmallNumbers (v b : ℤ) : Type 0 where
-  pub high : v ≤ℤ pos (10 ^ 18)
-  pub value : nat_abs v < 2 ^ 63
-  pub bound : nat_abs b < 2 ^ 63
+of_prepared : (core : CoreFields) → IsPrepared core → HasHistory core → IsFinished core.problem core.state → IsSolved core.problem.budget core
+of_prepared core p h f = record {
+  budget_is = refl;
+  history = h;
+  finished = f;
+  searched = of_core core h f p.weights p.from_start (finished_packed core p.positive h f);
+}
 
--- packing takes off what isn't negative
-below_pairs : (C : Matrix) (bound : ℤ) → bound ≤ℤ packing_bound C [] → bound ≤ℤ pair_bound C []
-below_pairs C bound packed = omega (arith, ints)
+-- a core that was just made, with an order that weighs at least as much as the start order
+pub IsPrepared-made : (C : Matrix) (s : List ℕ) (budget : ℕ) (core : CoreFields) → core ≡ prepared (record { weights = C; start = weight C s; budget = budget }) s → 1 ≤ budget → IsWeights C → IsOrder C.size s → ((t : List ℕ) → IsBeckerOrder C t → weight C t ≤ℤ weight C s)
+    → IsPrepared core × HasHistory core × (out_count core.state.nodes ≡ 0)
+IsPrepared-made C s budget core is positive weights order from_start =
+    let problem : Problem = record { weights = C; start = weight C s; budget = budget } in
+    subst (λ (x : CoreFields). IsPrepared x × HasHistory x × (out_count x.state.nodes ≡ 0)) (sym is) (record { positive = positive; weights = weights; from_start = from_start }, prepared_true problem s order refl, refl)
 
-pub searched_small : (C : Matrix) (budget : ℕ) (s : List ℕ) (value bound : ℤ) (nodes : ℕ) → IsSearched C budget s value bound nodes → HasSmallNumbers value bound
-searched_small C budget s value bound nodes so =
-    let weighs = weight_within C s so.order in
-    let bounds = pair_bound_within C [] in
-    let most = so.weights.bounded_sum in
-    let low : neg_ℤ (pos (10 ^ 18)) ≤ℤ value = rw so.value_is (omega (arith, ints)) in
-    let high : value ≤ℤ pos (10 ^ 18) = rw so.value_is (omega (arith, ints)) in
-    let above : value ≤ℤ bound = rw so.value_is (so.bounds.each s so.order) in
-    let below : bound ≤ℤ pair_bound C [] = below_pairs C bound so.packed in
-    record {
-      high = high;
-      value = in_64_bits value (pos (10 ^ 18)) high low (omega (arith, ints));
-      bound = in_64_bits bound (pos (10 ^ 18)) (omega (arith, ints)) (omega (arith, ints)) (omega (arith, ints));
-    }
+-- what is prepared stays so while the problem stays
+still_prepared : (old core : CoreFields) → core.problem ≡ old.problem → IsPrepared old → IsPrepared core
+still_prepared old core same p = record {
+  positive = subst (λ (q : Problem). 1 ≤ q.budget) (sym same) p.positive;
+  weights = subst (λ (q : Problem). IsWeights q.weights) (sym same) p.weights;
+  from_start = subst (λ (q : Problem). (t : List ℕ) → IsBeckerOrder q.weights t → weight q.weights t ≤ℤ q.start) (sym same) p.from_start;
+}
+
+-- a search from a prepared core to its end
+pub solved_from : (old core : CoreFields) → core.problem ≡ old.problem → IsPrepared old → HasHistory core → IsFinished core.problem core.state → IsSolved old.problem.budget core
+solved_from old core same p h f = subst (λ (k : ℕ). IsSolved k core) (ap (λ (q : Problem). q.budget) same) (of_prepared core (still_prepared old core same p) h f)
+
+-- its answer can be printed
+pub IsPrintable-solved : (budget : ℕ) (core : CoreFields) → IsSolved budget core → IsPrintable (Solved core)
+IsPrintable-solved budget core solved =
+    let weighs = weight_within core.problem.weights core.order solved.history.is_order in
+    let most = solved.searched.weights.bounded_sum in
+    let best : core.state.best ≡ weight core.problem.weights core.order = sym solved.history.weighs in
+    (solved.history.is_order.complete, omega (arith, ints, best, weighs.0))

@@ -6,6 +6,7 @@ pub mod InputRefusal
 pub mod Stops
 pub mod Reply
 pub mod Run
+pub mod SolveSteps
 pub mod CheckSteps
 pub mod ValueSteps
 pub mod Keeping

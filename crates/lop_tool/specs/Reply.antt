@@ -1,11 +1,11 @@
 -- What a run replies.
-use Rattle.std.specs.Prelude.{◌≡◌, ℕ, ◌^◌, List, [], length, ◌++◌, codes, ℤ, pos, ◌≤ℤ◌, ◌<ℤ◌, if◌then◌else◌}
+use Rattle.std.specs.Prelude.{◌≡◌, ℕ, ◌≤◌, ◌^◌, List, [], length, ◌++◌, codes, ℤ, pos, ◌≤ℤ◌, ◌<ℤ◌, if◌then◌else◌}
 use Rattle.lop_model.specs.Order.{IsOrder}
 use Rattle.lop_model.specs.Matrix.{Matrix, IsWeights, weight, IsUpperBound}
-use Rattle.lop_model.specs.Bound.{pair_bound}
 use Rattle.lop_leaf.specs.Packing.{packing_bound}
-use Rattle.lop_core.specs.Outcome.{IsOutcome}
-use Rattle.lop_tool.specs.declared.reply.Solution.{Solution}
+use Rattle.lop_core.specs.Machine.{state_bound}
+use Rattle.lop_core.specs.Core.{CoreFields, HasHistory}
+use Rattle.lop_core.specs.Outcome.{IsOutcome, IsFinished}
 use Rattle.lop_tool.specs.declared.reply.Outcome.{Outcome}
 use Rattle.lop_tool.specs.declared.reply.Outcome.TheVariants.{Accepted, Rejected}
 use Rattle.lop_tool.specs.declared.reply.Refusal.{Refusal}
@@ -31,12 +31,21 @@ refusal_status (Input refusal) = 3
 refusal_status (Order refusal) = 3
 refusal_status LongCertificate = 3
 
-abbrev pub solution_text : Solution → List ℕ
-solution_text x = solve_text x.weights x.order x.answer.value x.answer.bound x.answer.nodes
+-- the answer of a search, from its core
+abbrev pub solution_text : CoreFields → List ℕ
+solution_text core = solve_text core.problem.weights core.order core.state.best (state_bound core.state) core.state.evaluated
+
+-- the answer of a search on the weights of a seed
+abbrev pub generation_text : ℕ → CoreFields → List ℕ
+generation_text seed core = gen_text seed core.problem.weights core.state.best (state_bound core.state) core.state.evaluated
 
 -- 0 exactly where value and bound are the same
 abbrev pub solved_status : ℤ → ℤ → ℕ
 solved_status value bound = if is_optimal value bound then 0 else 6
+
+-- 0 exactly where the search ended with best and bound the same
+abbrev pub search_status : CoreFields → ℕ
+search_status core = solved_status core.state.best (state_bound core.state)
 
 abbrev pub outcome_text : Outcome → List ℕ
 outcome_text (Accepted value bound) = accepted_text value bound
@@ -49,28 +58,17 @@ outcome_status (Rejected line reason) = 1
 
 abbrev pub reply_text : Reply → List ℕ
 reply_text (Refused refusal) = refusal_line refusal
-reply_text (Solved x) = solution_text x
+reply_text (Solved core) = solution_text core
 reply_text (Checked x) = outcome_text x.outcome
 reply_text (Valued x) = value_text x.weights x.value
-reply_text (Generated x) = gen_text x.seed x.weights x.answer.value x.answer.bound x.answer.nodes
+reply_text (Generated x) = generation_text x.seed x.core
 
 abbrev pub reply_status : Reply → ℕ
 reply_status (Refused refusal) = refusal_status refusal
-reply_status (Solved x) = solved_status x.answer.value x.answer.bound
+reply_status (Solved core) = search_status core
 reply_status (Checked x) = outcome_status x.outcome
 reply_status (Valued x) = 0
-reply_status (Generated x) = solved_status x.answer.value x.answer.bound
-
--- the order is the start order, the value its weight, the bound the pair bound, which no order's weight exceeds;
--- a node is evaluated only where the two differ
-pub record IsSolution (C : Matrix) (s : List ℕ) (value bound : ℤ) (nodes : ℕ) : Type 0 where
-  pub weights : IsWeights C
-  pub order : IsOrder C.size s
-  pub start : IsBeckerOrder C s
-  pub value_is : value ≡ weight C s
-  pub bound_is : bound ≡ pair_bound C []
-  pub bounds : IsUpperBound C bound
-  pub nodes_are : nodes ≡ (if is_optimal value bound then 0 else 1)
+reply_status (Generated x) = search_status x.core
 
 -- the numbers are those of a finished run of the search with this budget: the value is the order's weight, no order
 -- weighs more than the bound, and the two differ only where the budget was spent; the value is at least the weight of the
@@ -85,10 +83,23 @@ pub record IsSearched (C : Matrix) (budget : ℕ) (s : List ℕ) (value bound : 
   pub from_start : (t : List ℕ) → IsBeckerOrder C t → weight C t ≤ℤ value
   pub packed : bound ≤ℤ packing_bound C []
 
+-- a core that may be searched: its first order weighs at least as much as the start order
+pub record IsPrepared (core : CoreFields) : Type 0 where
+  pub positive : 1 ≤ core.problem.budget
+  pub weights : IsWeights core.problem.weights
+  pub from_start : (t : List ℕ) → IsBeckerOrder core.problem.weights t → weight core.problem.weights t ≤ℤ core.problem.start
+
+-- a core after its search with this budget: its journal is lawful and its run finished, with these numbers
+pub record IsSolved (budget : ℕ) (core : CoreFields) : Type 0 where
+  pub budget_is : core.problem.budget ≡ budget
+  pub history : HasHistory core
+  pub finished : IsFinished core.problem core.state
+  pub searched : IsSearched core.problem.weights budget core.order core.state.best (state_bound core.state) core.state.evaluated
+
 -- what printing asks of a reply
 abbrev pub IsPrintable : Reply → Type 0
 IsPrintable (Refused refusal) = Unit {0}
-IsPrintable (Solved x) = (length x.order ≡ x.weights.size) × (x.answer.value ≤ℤ pos (2 ^ 63))
+IsPrintable (Solved core) = (length core.order ≡ core.problem.weights.size) × (core.state.best ≤ℤ pos (2 ^ 63))
 IsPrintable (Checked x) = Unit {0}
 IsPrintable (Valued x) = x.value ≤ℤ pos (2 ^ 63)
 IsPrintable (Generated x) = Unit {0}

@@ -6,7 +6,9 @@ use Rattle.lop_desk.specs.Desk.{IsMissing}
 use Rattle.lop_model.specs.Matrix.{Matrix, IsUpperBound, weight}
 use Rattle.lop_certtext.specs.declared.reason.Reason.{Reason}
 use Rattle.lop_check.specs.Verdict.{IsWeighed}
-use Rattle.lop_certtext.specs.Certificate.{Certificate, certificate_text, plain_certificate, IsTreeCertificate}
+use Rattle.lop_core.specs.Core.{CoreFields}
+use Rattle.lop_certtext.specs.Certificate.{Certificate, certificate_text, IsTreeCertificate}
+use Rattle.lop_certwrite.specs.CoreTree.{IsCertificateOf}
 use Rattle.lop_certtext.specs.Answer.{CheckAnswer, accepted, rejected, too_long, check_answer}
 use Rattle.lop_tool.specs.declared.words.Command.{Command}
 use Rattle.lop_tool.specs.declared.words.Command.TheVariants.{Solve, Check, Value, Gen}
@@ -15,7 +17,6 @@ use Rattle.lop_tool.specs.declared.reply.OrderFileRefusal.{OrderFileRefusal}
 use Rattle.lop_tool.specs.declared.reply.Refusal.{Refusal}
 use Rattle.lop_tool.specs.declared.reply.Refusal.TheVariants.{Words, Input, Order, LongCertificate}
 use Rattle.lop_gen.specs.Generated.{generated_matrix}
-use Rattle.lop_tool.specs.declared.reply.Solution.{Solution}
 use Rattle.lop_tool.specs.declared.reply.Generation.{Generation}
 use Rattle.lop_tool.specs.declared.reply.Outcome.{Outcome}
 use Rattle.lop_tool.specs.declared.reply.Outcome.TheVariants.{Accepted, Rejected}
@@ -23,9 +24,9 @@ use Rattle.lop_tool.specs.declared.reply.Reply.{Reply}
 use Rattle.lop_tool.specs.declared.reply.Reply.TheVariants.{Refused, Solved, Checked, Valued, Generated}
 use Rattle.lop_tool.specs.declared.reply.Stop.{Stop}
 use Rattle.lop_tool.specs.declared.reply.Stop.TheVariants.{Fault, Memory}
-use Rattle.lop_tool.specs.AnswerText.{accepted_text, rejected_line, value_text, gen_text}
+use Rattle.lop_tool.specs.AnswerText.{accepted_text, rejected_line, value_text}
 use Rattle.lop_tool.specs.Input.{input_named, order_named}
-use Rattle.lop_tool.specs.Reply.{IsSolution, IsSearched, refusal_line, reply_text, reply_status, solved_status, solution_text}
+use Rattle.lop_tool.specs.Reply.{IsSolved, refusal_line, reply_text, reply_status, solved_status, search_status, solution_text, generation_text}
 
 -- the files and the printed bytes alone
 abbrev pub settled : Option World → Option World
@@ -77,21 +78,16 @@ NamesMissing (Some command) old = NameMissing (input_file command) old ⊎ Secon
 abbrev pub Faulted : Option Command → Option World → ℕ → ℕ → Type 0
 Faulted command old before now = NamesMissing command old ⊎ Rose before now
 
--- what `solve` finds: without a certificate by a search with a node budget, and with one by the start order and the pair bound
-abbrev pub IsSolved : ℕ → Option (List ℕ) → Solution → Type 0
-IsSolved nodes None x = IsSearched x.weights nodes x.order x.answer.value x.answer.bound x.answer.nodes
-IsSolved nodes (Some name) x = IsSolution x.weights x.order x.answer.value x.answer.bound x.answer.nodes
-
--- the reply to `solve`: the file is refused, or its weights have this solution
-abbrev pub AnswersSolve : List ℕ → ℕ → Option (List ℕ) → Option World → Reply → Type 0
-AnswersSolve file nodes cert old (Solved x) = IsSolved nodes cert x × IfSome old (λ w. input_named w.files file ≡ Some (Ok x.weights))
-AnswersSolve file nodes cert old (Refused (Input refusal)) = IfSome old (λ w. input_named w.files file ≡ Some (Err refusal))
-AnswersSolve file nodes cert old (Refused Words) = ⊥
-AnswersSolve file nodes cert old (Refused LongCertificate) = ⊥
-AnswersSolve file nodes cert old (Checked x) = ⊥
-AnswersSolve file nodes cert old (Valued x) = ⊥
-AnswersSolve file nodes cert old (Generated x) = ⊥
-AnswersSolve file nodes cert old (Refused (Order refusal)) = ⊥
+-- the reply to `solve`: the file is refused, or its weights were searched with the node budget
+abbrev pub AnswersSolve : List ℕ → ℕ → Option World → Reply → Type 0
+AnswersSolve file nodes old (Solved core) = IsSolved nodes core × IfSome old (λ w. input_named w.files file ≡ Some (Ok core.problem.weights))
+AnswersSolve file nodes old (Refused (Input refusal)) = IfSome old (λ w. input_named w.files file ≡ Some (Err refusal))
+AnswersSolve file nodes old (Refused Words) = ⊥
+AnswersSolve file nodes old (Refused LongCertificate) = ⊥
+AnswersSolve file nodes old (Checked x) = ⊥
+AnswersSolve file nodes old (Valued x) = ⊥
+AnswersSolve file nodes old (Generated x) = ⊥
+AnswersSolve file nodes old (Refused (Order refusal)) = ⊥
 
 -- the file is accepted with C, and the checker's answer for the certificate is this one
 pub record IsChecked (file cert : List ℕ) (w : World) (C : Matrix) (answer : CheckAnswer) : Type 0 where
@@ -145,12 +141,11 @@ AnswersValue file order_file old (Solved x) = ⊥
 AnswersValue file order_file old (Checked x) = ⊥
 AnswersValue file order_file old (Generated x) = ⊥
 
--- the weights are those that the seed gives, and the numbers those of a finished search of ten nodes at most
+-- the weights are those that the seed gives, and they were searched with ten nodes at most
 pub record IsGenerated (seed n : ℕ) (x : Generation) : Type 0 where
   pub seed_is : x.seed ≡ seed
-  pub weights_are : x.weights ≡ generated_matrix seed n
-  pub order : List ℕ
-  pub searched : IsSearched x.weights 10 order x.answer.value x.answer.bound x.answer.nodes
+  pub weights_are : x.core.problem.weights ≡ generated_matrix seed n
+  pub solved : IsSolved 10 x.core
 
 -- the reply to `gen`: no file is read, so none is refused
 abbrev pub AnswersGen : ℕ → ℕ → Reply → Type 0
@@ -162,7 +157,7 @@ AnswersGen seed n (Valued x) = ⊥
 
 -- the reply is the one to this command, and where files are told, to what they hold
 abbrev pub AnswersCommand : Command → Option World → Reply → Type 0
-AnswersCommand (Solve file nodes cert) old reply = AnswersSolve file nodes cert old reply
+AnswersCommand (Solve file nodes cert) old reply = AnswersSolve file nodes old reply
 AnswersCommand (Check file cert) old reply = AnswersCheck file cert old reply
 AnswersCommand (Value file order_file) old reply = AnswersValue file order_file old reply
 AnswersCommand (Gen seed n) old reply = AnswersGen seed n reply
@@ -177,14 +172,17 @@ StopCause command old before now Memory = ⊤
 
 -- ---- the certificate
 
--- the certificate of a solution
-abbrev pub certificate_of : Solution → Certificate
-certificate_of x = plain_certificate x.order x.answer.value x.answer.bound
+-- the file under a name with the text of the core's certificate, which is true of its weights, has a property
+pub record HasCertificate (name : List ℕ) (core : CoreFields) (P : Option NamedFile → Type 0) : Type 0 where
+  pub certificate : Certificate
+  pub of_core : IsCertificateOf core certificate
+  pub holds : IsTreeCertificate core.problem.weights certificate
+  pub has : P (Some (record { name = name; bytes = certificate_text certificate }))
 
--- the file that a solution leaves under a name
-abbrev pub certificate_file : Option (List ℕ) → Solution → Option NamedFile
-certificate_file None x = None
-certificate_file (Some name) x = Some (record { name = name; bytes = certificate_text (certificate_of x) })
+-- the file that a core leaves under a name, if there is one, has a property
+abbrev pub LeavesCertificate : Option (List ℕ) → CoreFields → (Option NamedFile → Type 0) → Type 0
+LeavesCertificate None core P = P None
+LeavesCertificate (Some name) core P = HasCertificate name core P
 
 -- the name under which a command leaves a certificate
 abbrev pub cert_name : Command → Option (List ℕ)
@@ -193,13 +191,13 @@ cert_name (Check file cert) = None
 cert_name (Value file order_file) = None
 cert_name (Gen seed n) = None
 
--- the file that a reply leaves under this name
-abbrev pub reply_file : Option (List ℕ) → Reply → Option NamedFile
-reply_file name (Solved x) = certificate_file name x
-reply_file name (Checked x) = None
-reply_file name (Valued x) = None
-reply_file name (Generated x) = None
-reply_file name (Refused refusal) = None
+-- the file that a reply leaves under a name, if it leaves one, has a property
+abbrev pub LeavesFile : Option (List ℕ) → Reply → (Option NamedFile → Type 0) → Type 0
+LeavesFile name (Solved core) P = LeavesCertificate name core P
+LeavesFile name (Checked x) P = P None
+LeavesFile name (Valued x) P = P None
+LeavesFile name (Generated x) P = P None
+LeavesFile name (Refused refusal) P = P None
 
 abbrev pub command_name : Option Command → Option (List ℕ)
 command_name None = None
@@ -211,14 +209,14 @@ with_file None told = told
 with_file (Some file) None = None
 with_file (Some file) (Some w) = Some (record w { files = put_file file w.files })
 
--- what a run leaves that gave its whole reply: its certificate, and its text
-abbrev pub settled_after : Option Command → Reply → List ℕ → Option World → Option World
-settled_after command reply text old = with_printed text (with_file (reply_file (command_name command) reply) (settled old))
+-- a run leaves the file of its reply, and this text of it
+abbrev pub Leaves : Option Command → Reply → List ℕ → Option World → Option World → Type 0
+Leaves command reply text old new = LeavesFile (command_name command) reply (λ file. settled new ≡ with_printed text (with_file file (settled old)))
 
 -- how a run ended: with a reply, with a part of one, by a fault before it, or for want of memory
 pub data Ended (command : Option Command) (old new : Option World) (before now status : ℕ) : Type 0 where
-  replied : (reply : Reply) → Answers command old reply → status ≡ reply_status reply → settled new ≡ settled_after command reply (reply_text reply) old → Ended command old new before now status
-  cut_off : (reply : Reply) (n : ℕ) → status ≡ 4 → Faulted command old before now → Answers command old reply → settled new ≡ settled_after command reply (take n (reply_text reply)) old → Ended command old new before now status
+  replied : (reply : Reply) → Answers command old reply → status ≡ reply_status reply → Leaves command reply (reply_text reply) old new → Ended command old new before now status
+  cut_off : (reply : Reply) (n : ℕ) → status ≡ 4 → Faulted command old before now → Answers command old reply → Leaves command reply (take n (reply_text reply)) old new → Ended command old new before now status
   faulted : status ≡ 4 → Faulted command old before now → LeavesAll old new → Ended command old new before now status
   lacked : status ≡ 5 → LeavesAll old new → Ended command old new before now status
 
@@ -229,15 +227,14 @@ pub record ExactlyWhere (status answer : ℕ) (fact fault : Type 0) : Type 0 whe
   pub only : status ≡ answer → fact
   pub always : fact → (status ≡ answer) ⊎ (status ≡ 5) ⊎ ((status ≡ 4) × fault)
 
--- the file was accepted with C, what was printed is the answer for an order of C's objects, and a certificate of it
+-- the file was accepted, its weights were searched, what was printed is the answer, and the certificate of the search
 -- stands under the name, if there is one
 pub record Solves (file : List ℕ) (nodes : ℕ) (cert : Option (List ℕ)) (w : World) (old new : Option World) (status : ℕ) : Type 0 where
-  pub solved : Solution
-  pub accepted_file : input_named w.files file ≡ Some (Ok solved.weights)
-  pub solution : IsSolved nodes cert solved
-  pub certificate : IfSome cert (λ _. IsTreeCertificate solved.weights (certificate_of solved))
-  pub status_is : status ≡ solved_status solved.answer.value solved.answer.bound
-  pub left : settled new ≡ with_printed (solution_text solved) (with_file (certificate_file cert solved) (settled old))
+  pub core : CoreFields
+  pub accepted_file : input_named w.files file ≡ Some (Ok core.problem.weights)
+  pub solved : IsSolved nodes core
+  pub status_is : status ≡ search_status core
+  pub left : LeavesCertificate cert core (λ file. settled new ≡ with_printed (solution_text core) (with_file file (settled old)))
 
 -- with status 0 or 6, `solve` solves its file
 abbrev pub SolvesFile : Option Command → World → Option World → Option World → ℕ → Type 0
@@ -286,8 +283,8 @@ WeighsOrder (Some (Value file order_file)) w old new status = (status ≡ 0) ⊎
 pub record Generates (seed n : ℕ) (old new : Option World) (status : ℕ) : Type 0 where
   pub generated : Generation
   pub is_generated : IsGenerated seed n generated
-  pub status_is : status ≡ solved_status generated.answer.value generated.answer.bound
-  pub text : PrintsOnly old new (gen_text seed generated.weights generated.answer.value generated.answer.bound generated.answer.nodes)
+  pub status_is : status ≡ search_status generated.core
+  pub text : PrintsOnly old new (generation_text seed generated.core)
 
 -- with status 0 or 6, `gen` searches the weights of its seed
 abbrev pub GeneratesWeights : Option Command → Option World → Option World → ℕ → Type 0
@@ -349,7 +346,7 @@ PrintsRefusal command w old new = (refusal : Refusal) × Refuses command w refus
 
 -- what stands after a fault: all is as before, or the certificate of a right reply stands and the front of its text was printed
 abbrev pub LeavesAtMost : Option Command → Option World → Option World → Type 0
-LeavesAtMost command old new = LeavesAll old new ⊎ ((reply : Reply) × (n : ℕ) × Answers command old reply × (settled new ≡ settled_after command reply (take n (reply_text reply)) old))
+LeavesAtMost command old new = LeavesAll old new ⊎ ((reply : Reply) × (n : ℕ) × Answers command old reply × Leaves command reply (take n (reply_text reply)) old new)
 
 -- the status that the checker's answer leads to, or want of memory
 abbrev pub EndsBy : CheckAnswer → ℕ → Type 0

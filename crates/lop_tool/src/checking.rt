@@ -7,7 +7,6 @@ ghost use Rattle.lop_tool.specs.Run.{AnswersCheck, StopCause};
 ghost use Rattle.lop_tool.specs.CheckSteps.{ChecksNamed, ChecksBytes};
 ghost use Rattle.lop_desk.specs.Desk.{IsOpen};
 ghost use Rattle.lop_tool.specs.Stops.{InputCause, FaultCause};
-ghost use Rattle.lop_tool.specs.Keeping.{CanBeKept};
 
 use crate::input::read_input;
 use crate::reply::{CheckedCertificate, Outcome, Refusal, Reply, Stop};
@@ -22,7 +21,6 @@ pub fn check<D: Desk>(alloc: Global, file: &str, cert: &str, desk: &mut D) -> Re
     ensures later { D.faults desk.old ≤ D.faults desk.new }
     ensures reply { IfOk result (AnswersCheck file.now cert.now (D.told desk.old)) }
     ensures printable { IfOk result IsPrintable }
-    ensures kept { IfOk result CanBeKept }
     ensures stop { IfErr result (StopCause (Some (Check file.now cert.now)) (D.told desk.old) (D.faults desk.old) (D.faults desk.new)) }
 {
     match read_input(alloc, file, desk) {
@@ -43,7 +41,6 @@ fn check_weights<D: Desk>(
     ensures later { D.faults desk.old ≤ D.faults desk.new }
     ensures reply { IfOk result (ChecksNamed weights cert.now (D.told desk.old)) }
     ensures printable { IfOk result IsPrintable }
-    ensures kept { IfOk result CanBeKept }
     ensures stop { IfErr result (InputCause cert.now (D.told desk.old) (D.faults desk.old) (D.faults desk.new)) }
 {
     let Ok(mut room) = CheckRoom::new(alloc, weights.n()) else {
@@ -68,7 +65,6 @@ fn check_opened<D: Desk>(
     ensures later { D.faults desk.old ≤ D.faults desk.new }
     ensures reply { IfOk result (ChecksBytes weights (D.told desk.old)) }
     ensures printable { IfOk result IsPrintable }
-    ensures kept { IfOk result CanBeKept }
     ensures stop { IfErr result (FaultCause (D.faults desk.old) (D.faults desk.new)) }
 {
     let outcome = match lop_check::check(&weights, desk, room) {

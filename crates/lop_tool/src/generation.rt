@@ -4,7 +4,6 @@ ghost use Rattle.lop_gen.specs.Text.{HasNarrowDiagonal};
 ghost use Rattle.lop_tool.specs.declared.reply.Stop.TheVariants.{Memory};
 ghost use Rattle.lop_tool.specs.Reply.{IsPrintable};
 ghost use Rattle.lop_tool.specs.Run.{AnswersGen};
-ghost use Rattle.lop_tool.specs.Keeping.{CanBeKept};
 ghost use Rattle.lop_tool.specs.declared.reply.Reply.TheVariants as Reply;
 
 use crate::reply::{Generation, Reply, Stop};
@@ -23,7 +22,6 @@ pub fn generated(alloc: Global, seed: u64, n: u16) -> Result<Reply, Stop>
     requires within_limit { n ≤ 512 }
     ensures reply { IfOk result (AnswersGen seed n) }
     ensures printable { IfOk result IsPrintable }
-    ensures kept { IfOk result CanBeKept }
     ensures stop { IfErr result (λ stop. stop ≡ Memory) }
 {
     match search_generated(alloc, seed, n) {
@@ -40,11 +38,9 @@ fn search_generated(alloc: Global, seed: u64, n: u16) -> Result<Generation, Allo
 {
     let weights = generate(alloc, seed, n)?;
     let weights = read_back(alloc, &weights)?;
-    let solution = searched(alloc, weights, BUDGET)?;
     Ok(Generation {
         seed,
-        weights: solution.weights,
-        answer: solution.answer,
+        core: searched(alloc, &weights, BUDGET)?,
     })
 }
 

@@ -2,7 +2,6 @@
 #![tactic(auto)]
 
 mod both;
-mod bound;
 mod certificate;
 mod checking;
 mod deliver;

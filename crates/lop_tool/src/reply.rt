@@ -9,9 +9,10 @@ use crate::report::{
     Answer, print_accepted, print_answer, print_generated, print_rejected, print_value,
 };
 use lop_check::Reason;
+use lop_core::Core;
 use lop_desk::{Desk, DeskFailed, TextRoom, print_all};
 use lop_lolib::{LolibRefusal, OrderRefusal};
-use lop_model::{Order, Weights};
+use lop_model::Weights;
 
 /// Why an input file is refused.
 #[derive(Clone, Copy)]
@@ -37,14 +38,6 @@ pub enum Refusal {
     LongCertificate,
 }
 
-/// What a file of weights comes to.
-#[derive(Drop)]
-pub struct Solution {
-    pub weights: Weights,
-    pub order: Order,
-    pub answer: Answer,
-}
-
 /// What a certificate comes to.
 #[derive(Clone, Copy)]
 pub enum Outcome {
@@ -66,19 +59,19 @@ pub struct Valuation {
     pub value: i128,
 }
 
-/// What the weights that a seed gives come to.
+/// The weights that a seed gives, and their search.
 #[derive(Drop)]
 pub struct Generation {
     pub seed: u64,
-    pub weights: Weights,
-    pub answer: Answer,
+    pub core: Core,
 }
 
 /// What a run replies.
 #[derive(Drop)]
 pub enum Reply {
     Refused(Refusal),
-    Solved(Solution),
+    /// The weights of a file, and their search.
+    Solved(Core),
     Checked(CheckedCertificate),
     Valued(Valuation),
     Generated(Generation),
@@ -142,10 +135,10 @@ impl Reply {
     {
         match self {
             Reply::Refused(refusal) => refusal.status(),
-            Reply::Solved(solution) => solved_status(solution.answer.value, solution.answer.bound),
+            Reply::Solved(core) => solved_status(core.best(), core.bound()),
             Reply::Checked(checked) => checked.outcome.status(),
             Reply::Valued(_) => 0,
-            Reply::Generated(x) => solved_status(x.answer.value, x.answer.bound),
+            Reply::Generated(x) => solved_status(x.core.best(), x.core.bound()),
         }
     }
 }
@@ -162,10 +155,10 @@ pub fn print_reply<D: Desk>(
 {
     match reply {
         Reply::Refused(refusal) => print_refusal(*refusal, desk, room),
-        Reply::Solved(x) => print_answer(&x.answer, &x.order, &x.weights, desk, room),
+        Reply::Solved(core) => print_answer(&Answer::of_core(core), core.best_order(), core.weights(), desk, room),
         Reply::Checked(x) => print_outcome(x.outcome, desk, room),
         Reply::Valued(x) => print_value(x.value, &x.weights, desk, room),
-        Reply::Generated(x) => print_generated(x.seed, &x.answer, &x.weights, desk, room),
+        Reply::Generated(x) => print_generated(x.seed, &Answer::of_core(&x.core), x.core.weights(), desk, room),
     }
 }
 

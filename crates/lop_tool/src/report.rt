@@ -2,12 +2,14 @@
 ghost use Rattle.std.specs.Prelude.{◌≡◌, ◌≤◌, ◌<◌, ◌+◌, ◌*◌, ◌^◌, ◌++◌, length, codes, pos, neg_ℤ, ◌≤ℤ◌, MatchOption};
 ghost use Rattle.std.specs.List.{flat_map};
 ghost use Rattle.lop_model.specs.Matrix.{total};
+ghost use Rattle.lop_core.specs.Machine.{state_bound};
 ghost use Rattle.lop_desk.specs.Whole.{PrintsAll};
 ghost use Rattle.lop_desk.specs.Causes.{HasCause};
 ghost use Rattle.lop_tool.specs.AnswerText.{number_line, order_line, status_line, linearity_parts, linearity_text, linearity_line, four_digits, order_lines, figure_lines, solve_text, value_text, gen_text, bound_lines, object_word, digit_code, accepted_text, check_status_line, rejected_line, reason_text, two_numbers};
 
 use itoa::Buffer;
 use lop_check::Reason;
+use lop_core::Core;
 use lop_desk::{Desk, DeskFailed, TextRoom, print_all};
 use lop_model::{Order, Weights};
 
@@ -20,6 +22,21 @@ pub struct Answer {
     pub bound: i128,
     /// How many nodes of the search were evaluated.
     pub nodes: u32,
+}
+
+impl Answer {
+    /// The numbers of a search. O(the number of nodes).
+    pub fn of_core(core: &Core) -> Answer
+        ensures value { result.value ≡ core.now.state.best }
+        ensures bound { result.bound ≡ state_bound core.now.state }
+        ensures nodes { result.nodes ≡ core.now.state.evaluated }
+    {
+        Answer {
+            value: core.best(),
+            bound: core.bound(),
+            nodes: core.evaluated(),
+        }
+    }
 }
 
 /// Prints the answer, one `print_all` a line.

@@ -1,11 +1,17 @@
 // The search with one worker.
-ghost use Rattle.std.specs.Prelude.{◌≡◌, ◌+◌, ◌≤◌, length, IfOk, IfSome, IfNone};
+ghost use Rattle.std.specs.Prelude.{◌≡◌, ℕ, List, ◌+◌, ◌≤◌, ◌≤ℤ◌, length, IfOk, IfSome, IfNone};
+ghost use Rattle.lop_model.specs.Order.{IsOrder};
+ghost use Rattle.lop_model.specs.Matrix.{weight};
+ghost use Rattle.lop_climb.specs.StartOrder.{IsBeckerOrder};
 ghost use Rattle.lop_core.specs.Tree.{out_count};
 ghost use Rattle.lop_core.specs.Core.{HasHistory};
 ghost use Rattle.lop_core.specs.Outcome.{IsFinished};
+ghost use Rattle.lop_tool.specs.Reply.{IsPrepared, IsSolved};
 
+use lop_climb::{ClimbRoom, climb, start_order};
 use lop_core::{Core, TakeReply};
 use lop_leaf::{Evaluated, Ticket};
+use lop_model::Weights;
 use lop_node::{Judge, PackJudge};
 use std::alloc::{AllocError, Global};
 use std::marker::Model;
@@ -15,7 +21,7 @@ const WORKER: u32 = 0;
 
 /// What a worker needs: a judge, and the rooms for what it is handed and what it finds.
 #[derive(Drop)]
-pub struct Worker {
+struct Worker {
     judge: PackJudge,
     ticket: Ticket,
     found: Evaluated,
@@ -32,7 +38,7 @@ impl Model for Worker {
 }
 
 impl Worker {
-    pub fn new(alloc: Global, n: u16) -> Result<Self, AllocError>
+    fn new(alloc: Global, n: u16) -> Result<Self, AllocError>
         ensures { IfOk result (λ worker. worker ≡ n) }
     {
         Ok(Worker {
@@ -65,7 +71,7 @@ impl Worker {
     }
 
     /// Evaluates nodes until none is live or the budget is spent.
-    pub fn search(&mut self, core: &mut Core)
+    fn search(&mut self, core: &mut Core)
         requires same_n { self.old ≡ core.old.problem.weights.size }
         requires history { HasHistory core.old }
         requires none_out { out_count core.old.state.nodes ≡ 0 }
@@ -75,4 +81,66 @@ impl Worker {
     {
         while self.evaluate(core).is_some() {}
     }
+}
+
+/// A search with all that it needs: a contract sees its core.
+#[derive(Drop)]
+pub struct Search {
+    core: Core,
+    worker: Worker,
+}
+
+impl Model for Search {
+    ghost use Rattle.std.specs.Prelude.{◌≡◌};
+    ghost use Rattle.lop_core.specs.Core.{CoreFields, HasHistory};
+    ghost use Rattle.lop_core.specs.Tree.{out_count};
+    ghost use Rattle.lop_tool.specs.Reply.{IsPrepared};
+
+    ghost Value = { CoreFields };
+
+    ghost view = { λ s. s.core };
+
+    ghost invariant = { λ s. IsPrepared s.core × HasHistory s.core × (out_count s.core.state.nodes ≡ 0) × (s.worker ≡ s.core.problem.weights.size) };
+}
+
+impl Search {
+    /// Takes all memory for a search of the weights that evaluates so many nodes at most. It begins with a climb from
+    /// the start order.
+    pub fn prepare(alloc: Global, weights: &Weights, nodes: u32) -> Result<Self, AllocError>
+        requires positive { 1 ≤ nodes }
+        requires within_limit { nodes ≤ 1000000 }
+        ensures weights { IfOk result (λ core. core.problem.weights ≡ weights.now) }
+        ensures budget { IfOk result (λ core. core.problem.budget ≡ nodes) }
+    {
+        let n = weights.n();
+        let mut room = ClimbRoom::new(alloc, n)?;
+        first_order(weights, &mut room);
+        Ok(Search {
+            core: Core::prepare(alloc, weights, room.order(), nodes)?,
+            worker: Worker::new(alloc, n)?,
+        })
+    }
+
+    /// Searches until no node is live or the budget is spent. It takes no memory.
+    pub fn run(self) -> Core
+        ensures weights { result.problem.weights ≡ self.problem.weights }
+        ensures solved { IsSolved self.problem.budget result }
+    {
+        let Search {
+            mut core,
+            mut worker,
+        } = self;
+        worker.search(&mut core);
+        core
+    }
+}
+
+// The start order, and from there a climb.
+fn first_order(weights: &Weights, room: &mut ClimbRoom)
+    requires { length room.old ≡ weights.now.size }
+    ensures order { IsOrder weights.now.size room.new }
+    ensures from_start { (t : List ℕ) → IsBeckerOrder weights.now t → weight weights.now t ≤ℤ weight weights.now room.new }
+{
+    start_order(weights, room);
+    let _ = climb(weights, room);
 }

@@ -1,12 +1,11 @@
 // The top call.
 ghost use Rattle.std.specs.Prelude.{◌≡◌, ◌≤◌, None, Some, map, IfSome, IfOk, IfErr};
 ghost use Rattle.std.specs.String.{string_bytes};
-ghost use Rattle.lop_desk.specs.Whole.{OnlyOpens};
 ghost use Rattle.lop_tool.specs.declared.reply.Refusal.TheVariants.{Words};
 ghost use Rattle.lop_tool.specs.Command.{command_of, HasBudget};
 ghost use Rattle.lop_tool.specs.Reply.{refusal_line, IsPrintable};
-ghost use Rattle.lop_tool.specs.Run.{AnswersCommand, StopCause, Ended, Faulted, ExactlyWhere, SolvesFile, AcceptsCertificate, WeighsOrder, GeneratesWeights, IsRejected, PrintsRejection, IsRefused, PrintsRefusal, PrintsOnly, LeavesAtMost, LeavesAll, IsComplete};
-ghost use Rattle.lop_tool.specs.Keeping.{CanBeKept};
+ghost use Rattle.lop_tool.specs.Run.{settled, cert_name, AnswersCommand, StopCause, Ended, Faulted, ExactlyWhere, SolvesFile, AcceptsCertificate, WeighsOrder, GeneratesWeights, IsRejected, PrintsRejection, IsRefused, PrintsRefusal, PrintsOnly, LeavesAtMost, LeavesAll, IsComplete};
+ghost use Rattle.lop_tool.specs.Keeping.{IsBegun};
 
 use crate::checking::check;
 use crate::deliver::deliver;
@@ -25,9 +24,9 @@ pub fn run<D: Desk>(alloc: Global, words: &[String], desk: &mut D) -> u8
     ensures later { D.faults desk.old ≤ D.faults desk.new }
     ensures statuses { result ≤ 6 }
 
-    // The printed order is an order of the file's objects, the value its weight, the bound no order's weight exceeds;
-    // the numbers are those of a finished search, or with a certificate, of the start order and the pair bound; the
-    // certificate is the text of a true one with these numbers, and no other file changes.
+    // The printed order is an order of the file's objects, the value its weight, the bound no order's weight exceeds,
+    // and the numbers are those of a finished search; the certificate is the text of a true one with these numbers and
+    // with the tree of that search, and no other file changes.
     ensures solves { let command = command_of (map (λ s. string_bytes s) words.now) in
         IfSome (D.told desk.old) (λ w. SolvesFile command w (D.told desk.old) (D.told desk.new) result) }
 
@@ -120,11 +119,11 @@ fn answer<D: Desk>(alloc: Global, command: &Command, desk: &mut D, room: &mut Te
 // The reply to this command over the files of this desk.
 fn decide<D: Desk>(alloc: Global, command: &Command, desk: &mut D) -> Result<Reply, Stop>
     requires { HasBudget command.now }
-    ensures world { OnlyOpens (D.told desk.old) (D.told desk.new) }
+    ensures world { settled (D.told desk.new) ≡ settled (D.told desk.old) }
     ensures later { D.faults desk.old ≤ D.faults desk.new }
     ensures reply { IfOk result (AnswersCommand command.now (D.told desk.old)) }
     ensures printable { IfOk result IsPrintable }
-    ensures kept { IfOk result CanBeKept }
+    ensures begun { IfOk result (λ reply. IsBegun (cert_name command.now) reply (D.told desk.new)) }
     ensures stop { IfErr result (StopCause (Some command.now) (D.told desk.old) (D.faults desk.old) (D.faults desk.new)) }
 {
     match command {

@@ -6,7 +6,6 @@ ghost use Rattle.lop_tool.specs.Reply.{IsPrintable};
 ghost use Rattle.lop_tool.specs.Run.{AnswersValue, StopCause};
 ghost use Rattle.lop_tool.specs.ValueSteps.{WeighsNamed};
 ghost use Rattle.lop_tool.specs.Stops.{InputCause};
-ghost use Rattle.lop_tool.specs.Keeping.{CanBeKept};
 
 use crate::input::{read_input, read_order_file};
 use crate::reply::{Refusal, Reply, Stop, Valuation};
@@ -26,7 +25,6 @@ pub fn weigh<D: Desk>(
     ensures later { D.faults desk.old ≤ D.faults desk.new }
     ensures reply { IfOk result (AnswersValue file.now order_file.now (D.told desk.old)) }
     ensures printable { IfOk result IsPrintable }
-    ensures kept { IfOk result CanBeKept }
     ensures stop { IfErr result (StopCause (Some (Value file.now order_file.now)) (D.told desk.old) (D.faults desk.old) (D.faults desk.new)) }
 {
     match read_input(alloc, file, desk) {
@@ -47,7 +45,6 @@ fn weigh_order<D: Desk>(
     ensures later { D.faults desk.old ≤ D.faults desk.new }
     ensures reply { IfOk result (WeighsNamed weights order_file.now (D.told desk.old)) }
     ensures printable { IfOk result IsPrintable }
-    ensures kept { IfOk result CanBeKept }
     ensures stop { IfErr result (InputCause order_file.now (D.told desk.old) (D.faults desk.old) (D.faults desk.new)) }
 {
     match read_order_file(alloc, order_file, weights.n(), desk) {

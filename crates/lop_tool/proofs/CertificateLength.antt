@@ -1,0 +1,45 @@
+-- How long the certificate of a search is.
+use Rattle.std.proofs.Common.{◌≡◌, ℕ, ◌+◌, ◌*◌, ◌^◌, ◌≤◌, List, [], ◌∷◌, ◌++◌, length, map, ◌∙◌, ap, refl, arith, length-append}
+use Rattle.std.proofs.lemmas.List.{length-map}
+use Rattle.lop_core.specs.Records.{NodeRecord}
+use Rattle.lop_core.specs.Core.{CoreFields}
+use Rattle.lop_core.specs.Machine.{SearchState}
+use Rattle.lop_core.specs.Journal.{replay}
+use Rattle.lop_core.proofs.Counts.{counted}
+use Rattle.lop_certtext.specs.Line.{CertLine}
+use Rattle.lop_certtext.specs.CutLine.{cut_line}
+use Rattle.lop_certtext.specs.Tree.{Tree, tree_lines}
+use Rattle.lop_certtext.specs.declared.word.CertWord.TheVariants.{End}
+use Rattle.lop_certtext.specs.Certificate.{Certificate, certificate_lines, certificate_text, text_of, IsTreeCertificate}
+use Rattle.lop_certtext.proofs.AcceptedText.{AreWritten, length-text_of, lines_written}
+use Rattle.lop_certwrite.specs.CoreTree.{NodeTree, one_node, two_below, node_count, certificate_tree, IsCertificateOf}
+use Rattle.lop_tool.specs.Reply.{IsSolved}
+
+-- lines that may be written are short
+short_text : (ls : List CertLine) → AreWritten ls → length (text_of ls) ≤ 131072 * length ls
+short_text [] w = omega arith
+short_text (l ∷ ls) w = omega (arith, length-text_of l ls, w.0.short, short_text ls w.1)
+
+-- a tree has a line for each node
+length-tree_lines : (records : List NodeRecord) (t : NodeTree) → length (tree_lines (certificate_tree records t)) ≡ node_count t
+length-tree_lines records (one_node number) = refl
+length-tree_lines records (two_below pair first second) =
+    omega (arith, length-append (tree_lines (certificate_tree records first)) (tree_lines (certificate_tree records second)), length-tree_lines records first, length-tree_lines records second)
+
+-- and the whole has eight lines more than cuts and nodes, less one
+length-lines : (c : Certificate) (records : List NodeRecord) (t : NodeTree) → c.tree ≡ certificate_tree records t → length (certificate_lines c) ≡ 7 + length c.cuts + node_count t
+length-lines c records t is =
+    let tree : length (tree_lines c.tree) ≡ node_count t = ap (λ (x : Tree). length (tree_lines x)) is ∙ length-tree_lines records t in
+    omega (arith, tree, length-map c.cuts cut_line, length-append (map cut_line c.cuts) (tree_lines c.tree ++ record { word = End; numbers = [] } ∷ []), length-append (tree_lines c.tree) (record { word = End; numbers = [] } ∷ []))
+
+-- there are at most twice as many nodes as the budget, and one
+few_nodes : (budget : ℕ) (core : CoreFields) → IsSolved budget core → length core.state.nodes ≤ 2 * budget + 1
+few_nodes budget core solved =
+    let c = counted core.problem core.journal solved.history.lawful in
+    let same : length core.state.nodes ≡ length (replay core.problem core.journal).nodes = ap (λ (s : SearchState). length s.nodes) solved.history.replayed in
+    omega (arith, c.size, c.splits, c.within, same, solved.budget_is)
+
+-- a checker reads it to its end
+pub length-certificate_of : (budget : ℕ) (core : CoreFields) (c : Certificate) → budget ≤ 1000000 → IsSolved budget core → IsCertificateOf core c → IsTreeCertificate core.problem.weights c → length (certificate_text c) ≤ 2 ^ 40
+length-certificate_of budget core c few solved of holds =
+    omega (arith, short_text (certificate_lines c) (lines_written core.problem.weights solved.searched.weights c holds), length-lines c core.book.records of.whole.tree of.tree_is, of.whole.complete, few_nodes budget core solved, holds.few_cuts, few)

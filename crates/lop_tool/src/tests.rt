@@ -285,13 +285,15 @@ fn round_trip(rt: HostRuntime) -> Result<(), Fail> {
     let check = owned(alloc, &["check", "lolib", "a", "c"])?;
     assert_eq!(rt;
         solve_then_check(alloc, &solve, &check, &mut memory),
-        (6, 6)
+        (0, 0)
     );
-    let written = b"lopcert 1\nobjects 3\norder 1 2 3\nvalue 10\nbound 12\ncuts 0\nleaf 1 0\nend\n";
+    let written = b"lopcert 1\nobjects 3\norder 1 2 3\nvalue 10\nbound 10\ncuts 1\ndicycle 1 2 3\nleaf 1 1 1 2\nend\n";
     assert_eq!(rt; memory.file("c"), Some(written.as_slice()));
-    let mut failing = desk(alloc, SECTORS, &[8], 1000)?;
-    assert_eq!(rt; run(alloc, &solve, &mut failing), 4);
-    assert_eq!(rt; failing.file("c"), None);
-    assert_eq!(rt; failing.printed(), b"".as_slice());
+    for call in 1..15 {
+        let mut failing = desk(alloc, SECTORS, &[call], 1000)?;
+        assert_eq!(rt; run(alloc, &solve, &mut failing), 4);
+        assert_eq!(rt; failing.file("c"), None);
+        assert_eq!(rt; failing.printed(), b"".as_slice());
+    }
     Ok(())
 }

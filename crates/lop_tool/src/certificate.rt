@@ -7,10 +7,10 @@ ghost use Rattle.lop_tool.specs.Keeping.{HasBegunNamed, WritesCertificate};
 ghost use Rattle.lop_tool.specs.Stops.{FaultCause};
 
 use crate::reply::Stop;
+use crate::words::NameWord;
 use lop_certwrite::write_certificate;
 use lop_core::Core;
 use lop_desk::{Desk, DeskFailed, OpenFault, TextRoom};
-use crate::words::NameWord;
 
 /// Begins the file under the name, if there is one.
 pub fn begin_certificate<D: Desk>(cert: &Option<NameWord>, desk: &mut D) -> Result<(), Stop>
@@ -30,7 +30,11 @@ pub fn begin_certificate<D: Desk>(cert: &Option<NameWord>, desk: &mut D) -> Resu
 }
 
 /// Writes the certificate of a core into the file that was begun, and finishes it. After an Err the files are as before.
-pub fn leave_certificate<D: Desk>(core: &Core, desk: &mut D, room: &mut TextRoom) -> Result<(), DeskFailed>
+pub fn leave_certificate<D: Desk>(
+    core: &Core,
+    desk: &mut D,
+    room: &mut TextRoom,
+) -> Result<(), DeskFailed>
     requires { IsMaking (D.told desk.old) }
     ensures effect { MatchResult result (λ _. WritesCertificate core.now (D.told desk.old) (D.told desk.new)) (λ _. settled (D.told desk.new) ≡ settled (D.told desk.old)) }
     ensures cause { HasCause (D.faults desk.old) (D.faults desk.new) result }

@@ -155,10 +155,22 @@ pub fn print_reply<D: Desk>(
 {
     match reply {
         Reply::Refused(refusal) => print_refusal(*refusal, desk, room),
-        Reply::Solved(core) => print_answer(&Answer::of_core(core), core.best_order(), core.weights(), desk, room),
+        Reply::Solved(core) => print_answer(
+            &Answer::of_core(core),
+            core.best_order(),
+            core.weights(),
+            desk,
+            room,
+        ),
         Reply::Checked(x) => print_outcome(x.outcome, desk, room),
         Reply::Valued(x) => print_value(x.value, &x.weights, desk, room),
-        Reply::Generated(x) => print_generated(x.seed, &Answer::of_core(&x.core), x.core.weights(), desk, room),
+        Reply::Generated(x) => print_generated(
+            x.seed,
+            &Answer::of_core(&x.core),
+            x.core.weights(),
+            desk,
+            room,
+        ),
     }
 }
 

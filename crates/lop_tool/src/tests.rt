@@ -287,7 +287,8 @@ fn round_trip(rt: HostRuntime) -> Result<(), Fail> {
         solve_then_check(alloc, &solve, &check, &mut memory),
         (0, 0)
     );
-    let written = b"lopcert 1\nobjects 3\norder 1 2 3\nvalue 10\nbound 10\ncuts 1\ndicycle 1 2 3\nleaf 1 1 1 2\nend\n";
+    let written =
+        b"lopcert 1\nobjects 3\norder 1 2 3\nvalue 10\nbound 10\ncuts 1\ndicycle 1 2 3\nleaf 1 1 1 2\nend\n";
     assert_eq!(rt; memory.file("c"), Some(written.as_slice()));
     for call in 1..15 {
         let mut failing = desk(alloc, SECTORS, &[call], 1000)?;

@@ -35,8 +35,7 @@ impl NameWord {
 /// What the words ask for.
 #[derive(Drop)]
 pub enum Command {
-    /// Solve the file by evaluating so many nodes at most. With a name, bound it without a search, and write a
-    /// certificate there.
+    /// Solve the file by evaluating so many nodes at most, and with a name, write a certificate there.
     Solve {
         file: NameWord,
         nodes: u32,

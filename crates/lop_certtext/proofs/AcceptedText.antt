@@ -78,6 +78,11 @@ lines_from-line start l next ps lines w within others =
 pub length-text_of : (l : CertLine) (ls : List CertLine) → length (text_of (l ∷ ls)) ≡ length (line_text l) + 1 + length (text_of ls)
 length-text_of l ls = omega (arith, length-append (line_text l ++ codes "\n") (text_of ls), length-append (line_text l) (codes "\n"))
 
+-- lines that may be written are short
+pub short_text : (ls : List CertLine) → AreWritten ls → length (text_of ls) ≤ 131072 * length ls
+short_text [] w = omega arith
+short_text (l ∷ ls) w = omega (arith, length-text_of l ls, w.0.short, short_text ls w.1)
+
 lines_from-text : (ls : List CertLine) (start : ℕ) → AreWritten ls → start + length (text_of ls) ≤ 2 ^ 40 → lines_from start (map line_text ls ++ [] ∷ []) ≡ map ended ls
 lines_from-text [] start w within = refl
 lines_from-text (l ∷ []) start w within = lines_from-line start l [] [] [] w.0 (omega (arith, length-text_of l [])) refl

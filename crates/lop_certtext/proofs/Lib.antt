@@ -9,5 +9,4 @@ pub mod ObjectNumbers
 pub mod CutText
 pub mod NodeText
 pub mod AcceptedText
-pub mod PlainCertificate
 pub mod OnlyTrue

@@ -8,7 +8,7 @@ use Rattle.lop_cuts.specs.Kind.{IsCut, FitsCut}
 use Rattle.lop_certtext.specs.declared.word.CertWord.TheVariants.{Version, Objects, OrderLine, Value, Bound, Cuts, End}
 use Rattle.lop_certtext.specs.Line.{CertLine, line_text, most_cuts}
 use Rattle.lop_certtext.specs.CutLine.{numbers_of_objects, cut_line, IsShapedCut}
-use Rattle.lop_certtext.specs.Tree.{Tree, leaf, tree_lines, IsTree}
+use Rattle.lop_certtext.specs.Tree.{Tree, tree_lines, IsTree}
 
 -- an order, what it weighs, a bound, cuts, and a tree whose leaves show the bound
 pub record Certificate : Type 0 where
@@ -48,11 +48,6 @@ pub record IsTreeCertificate (C : Matrix) (c : Certificate) : Type 0 where
   pub cuts_fit : All (FitsCut C.size) c.cuts
   pub cuts_shaped : All IsShapedCut c.cuts
   pub tree_is : IsTree C c.cuts c.bound [] c.tree
-
--- without cuts: one leaf of scale 1, without terms
-abbrev pub plain_certificate : List ℕ → ℤ → ℤ → Certificate
-plain_certificate s value bound =
-    record { order = s; value = value; bound = bound; cuts = []; tree = leaf (record { scale = 1; terms = [] }) }
 
 -- a text of at most 2^40 bytes is the text of a true certificate with this value and bound
 pub record IsCertificateText (C : Matrix) (bytes : List ℕ) (value bound : ℤ) : Type 0 where

@@ -1,5 +1,5 @@
 -- The tree of a certificate, its lines, and what makes it true.
-use Rattle.std.specs.Prelude.{◌≡◌, ◌^◌, ◌<◌, ◌≤◌, true, List, [], ◌∷◌, ◌++◌, length, All, ℤ}
+use Rattle.std.specs.Prelude.{◌≡◌, ℕ, ◌+◌, ◌^◌, ◌<◌, ◌≤◌, true, List, [], ◌∷◌, ◌++◌, length, All, ℤ}
 use Rattle.lop_model.specs.declared.pair.Pair.{Pair}
 use Rattle.lop_model.specs.Matrix.{Matrix}
 use Rattle.lop_model.specs.Fixings.{IsUndecided}
@@ -15,6 +15,11 @@ use Rattle.lop_certtext.specs.LeafLine.{LeafTerms, leaf_line, are_rising, terms_
 pub data Tree : Type 0 where
   leaf : LeafTerms → Tree
   split : Pair → Tree → Tree → Tree
+
+-- how many nodes it has
+abbrev pub tree_size : Tree → ℕ
+tree_size (leaf l) = 1
+tree_size (split p first second) = 1 + (tree_size first + tree_size second)
 
 abbrev pub split_line : Pair → CertLine
 split_line p = record { word = SplitLine; numbers = numbers_of_objects (p.before ∷ p.after ∷ []) }

@@ -57,9 +57,9 @@ module _ {X : Type 0} (P : X → Type 0) (p : X → Bool) (xs : List X) (y : X) 
 
 -- what an event at node n leaves of the nodes
 pub record Effect (old new : List SearchNode) (best best' : ℤ) (n : ℕ) : Type 0 where
-  kept : (j : ℕ) (x : SearchNode) → j ≢ n → slice_get old j ≡ Some x → slice_get new j ≡ Some x
+  pub kept : (j : ℕ) (x : SearchNode) → j ≢ n → slice_get old j ≡ Some x → slice_get new j ≡ Some x
   came : (j : ℕ) (x : SearchNode) → j ≢ n → slice_get new j ≡ Some x → (slice_get old j ≡ Some x) ⊎ (x.standing ≡ Idle)
-  rises : best ≤ℤ best'
+  pub rises : best ≤ℤ best'
 
 -- a node that was reported: it isn't out, and it isn't ready
 abbrev pub IsDone : List SearchNode → ℤ → ℕ → Type 0
@@ -192,7 +192,7 @@ reported_fate s t journal w n bound pair value room out d (done e a) =
     cc
 
 -- the report's effect
-report_effect : (problem : Problem) (journal : List Entry) (w n : ℕ) (bound : ℤ) (pair : Option Pair) (value : ℤ) (room : Bool) → MayReport problem (replay problem journal) (room_count journal) w n bound pair value room
+pub report_effect : (problem : Problem) (journal : List Entry) (w n : ℕ) (bound : ℤ) (pair : Option Pair) (value : ℤ) (room : Bool) → MayReport problem (replay problem journal) (room_count journal) w n bound pair value room
     → Effect (replay problem journal).nodes (after (replay problem journal) (Report w n bound pair value room)).nodes (replay problem journal).best (after (replay problem journal) (Report w n bound pair value room)).best n
     × IsDone (after (replay problem journal) (Report w n bound pair value room)).nodes (after (replay problem journal) (Report w n bound pair value room)).best n
 unfolding after
@@ -205,7 +205,7 @@ report_effect problem journal w n bound pair value room may =
     low None h k = rw k (subst (λ (b : ℤ). b ≤ℤ int_max (replay problem journal).best value) h.1 (omega (arith, ints, clamps)))
     low (Some p) h k = h
 
-take_effect : (problem : Problem) (s : SearchState) (w n : ℕ) → MayTake problem s n → Effect s.nodes (after s (Take w n)).nodes s.best (after s (Take w n)).best n
+pub take_effect : (problem : Problem) (s : SearchState) (w n : ℕ) → MayTake problem s n → Effect s.nodes (after s (Take w n)).nodes s.best (after s (Take w n)).best n
 unfolding after
 take_effect problem s w n may = changed_effect s.nodes s.best s.best n may.ready.it (node_at s.nodes n).bound (Out w) may.ready.is_there (omega (arith, ints))
 

@@ -16,6 +16,7 @@ pub mod PathRoom
 pub mod CoreLemmas
 pub mod Extensions
 pub mod NodeCount
+pub mod DoneNodes
 pub mod JudgeLemmas
 pub mod Monotone
 pub mod Alone

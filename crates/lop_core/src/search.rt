@@ -262,9 +262,11 @@ impl Core {
         count_ready(&self.nodes, self.best)
     }
 
-    /// The number of nodes: at most twice the number of all orders of n, less one.
+    /// The number of nodes: at most twice the number of all orders of n, less one, and at least the number of those
+    /// that were evaluated.
     pub fn nodes(&self) -> u32
         ensures value { result ≡ length self.now.state.nodes }
+        ensures evaluated { self.now.state.evaluated ≤ result }
         ensures at_most { (all : List (List ℕ)) → AreAllOrders self.now.problem.weights.size all → result + 1 ≤ 2 * length all }
         ensures within_budget { result ≤ 2 * self.now.problem.budget + 1 }
     {

@@ -7,3 +7,4 @@ pub mod ClosureBelow
 pub mod TreeHolds
 pub mod CutLines
 pub mod Pieces
+pub mod TreeSize

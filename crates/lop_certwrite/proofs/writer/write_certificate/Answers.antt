@@ -6,6 +6,7 @@ use Rattle.lop_model.specs.Matrix.{IsWeights}
 use Rattle.lop_core.specs.Machine.{state_bound}
 use Rattle.lop_core.proofs.Linked.{core_linked}
 use Rattle.lop_certwrite.proofs.Growth.{whole_tree}
+use Rattle.lop_certwrite.proofs.TreeSize.{evaluated_in_tree}
 use Rattle.lop_certwrite.proofs.TreeHolds.{best_fits, bound_fits, certificate_holds}
 use Rattle.lop_certwrite.proofs.Pieces.{cut_in_order, cut_in_bound, all_written, written_holds}
 use Rattle.lop_certwrite.proofs.writer.write_certificate.Goals as goal
@@ -80,3 +81,12 @@ returns-clause-holds g c =
     let weights : IsWeights c.args.core.now.problem.weights = subst IsWeights c.weights.ensures c.n-2.ensures.weights in
     let few : length c.args.core.now.book.cuts ≤ 65536 = search rules in
     written_holds c.write_body.result (certificate_holds c.args.core.now c.best.ensures.history c.cuts.ensures.recorded c.cuts.ensures.book weights few) c.write_body.ensures.shaped
+
+pub returns-in_err-write_order_lines-clause-evaluated : goal.returns-in_err-write_order_lines-clause-evaluated
+returns-in_err-write_order_lines-clause-evaluated g c = λ certificate. evaluated_in_tree c.args.core.now certificate c.best.ensures.history
+
+pub returns-in_err-write_bound_lines-clause-evaluated : goal.returns-in_err-write_bound_lines-clause-evaluated
+returns-in_err-write_bound_lines-clause-evaluated g c = λ certificate. evaluated_in_tree c.args.core.now certificate c.best.ensures.history
+
+pub returns-clause-evaluated : goal.returns-clause-evaluated
+returns-clause-evaluated g c = λ certificate. evaluated_in_tree c.args.core.now certificate c.best.ensures.history

@@ -1,5 +1,5 @@
 -- The tree of a core's certificate has all nodes of the core, so at least as many as were evaluated.
-use Rattle.std.proofs.Common.{◌≡◌, ℕ, ◌+◌, ◌≤◌, List, length, ◌∙◌, ap, refl, arith}
+use Rattle.std.proofs.Common.{◌≡◌, ◌≤◌, List, length, ◌∙◌, ap, refl, arith}
 use Rattle.lop_core.specs.Records.{NodeRecord}
 use Rattle.lop_core.specs.Core.{CoreFields, HasHistory}
 use Rattle.lop_core.proofs.DoneNodes.{evaluated_nodes}

@@ -26,7 +26,7 @@ pub enum Command {
         file: NameWord,
         cert: NameWord,
     },
-    /// Weigh the order that the one file holds by the weights of the other.
+    /// Weigh the order in the order file by the weights in the file.
     Value {
         format: Format,
         file: NameWord,

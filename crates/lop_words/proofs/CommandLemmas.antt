@@ -34,6 +34,7 @@ between plain low high n is = by plain (nat_le low n) (nat_le n high) refl refl 
     by true false c above below is = absurd cc
     by false b c above below is = absurd cc
 
+-- a budget that an option's value spells is within its limits
 budget_within : (value : Option (List ℕ)) (nodes : ℕ) → budget_of value ≡ Some nodes → (1 ≤ nodes) × (nodes ≤ 1000000)
 budget_within None nodes is = let same : 10000 ≡ nodes = cc in (omega (arith, same), omega (arith, same))
 budget_within (Some word) nodes is = by (is_budget word) refl is
@@ -42,6 +43,7 @@ budget_within (Some word) nodes is = by (is_budget word) refl is
     by true test is = let same : digits_value word ≡ nodes = cc in let P : ℕ → Type 0 = λ n. (1 ≤ n) × (n ≤ 1000000) in subst P same (between (is_plain word) 1 1000000 (digits_value word) (sym test))
     by false test is = absurd cc
 
+-- a certificate that an option's value names isn't FILE
 certificate_apart : (file : List ℕ) (value cert : Option (List ℕ)) → certificate_of file value ≡ Some cert → IsApart file cert
 certificate_apart file None cert is = let same : None ≡ cert = cc in subst (IsApart file) same tt
 certificate_apart file (Some name) cert is = by (is_name_word name) (bytes_eq name file) refl is
@@ -52,6 +54,7 @@ certificate_apart file (Some name) cert is = by (is_name_word name) (bytes_eq na
     by false same test is = absurd cc
 
 module _ (command : Command) where
+  -- a sound command, when it is the one
   the_one : (c : Command) → IsSound c → Some c ≡ Some command → IsSound command
   the_one c sound is = let same : c ≡ command = cc in subst IsSound same sound
 
@@ -60,6 +63,7 @@ module _ (command : Command) where
   either true x y then_sound else_sound is = then_sound is
   either false x y then_sound else_sound is = else_sound is
 
+  -- none where the test fails
   where_true : (t : Bool) (x : Option Command) → (x ≡ Some command → IsSound command) → cond t x None ≡ Some command → IsSound command
   where_true t x sound is = either t x None sound (λ none. absurd cc) is
 
@@ -102,6 +106,7 @@ module _ (command : Command) where
       by false t test is = absurd cc
   gen_sound seed n (word ∷ words) is = absurd cc
 
+  -- what words spell is sound
   command_sound : (words : List (List ℕ)) → command_of words ≡ Some command → IsSound command
   command_sound [] is = absurd cc
   command_sound (verb ∷ []) is = absurd cc
@@ -112,6 +117,7 @@ module _ (command : Command) where
 pub names_apart : (words : List (List ℕ)) (kind : Format) (f n : List ℕ) (k : ℕ) → command_of words ≡ Some (Solve kind f k (Some n)) → bytes_eq n f ≡ false
 names_apart words kind f n k is = (command_sound (Solve kind f k (Some n)) words is).1
 
+-- a sound command is within its limits
 within_limits : (command : Command) → IsSound command → IsWithinLimits command
 within_limits (Solve format file nodes cert) sound = sound.0
 within_limits (Check format file cert) sound = tt

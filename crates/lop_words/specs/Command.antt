@@ -1,10 +1,11 @@
 -- The command line.
-use Rattle.std.specs.Prelude.{ℕ, List, [], ◌∷◌, codes, Option, None, Some, if◌then◌else◌}
+use Rattle.std.specs.Prelude.{ℕ, ◌≤◌, ◌&&◌, List, [], ◌∷◌, codes, Option, None, Some, if◌then◌else◌, ⊤}
 use Rattle.std.specs.Str.{bytes_eq}
+use Rattle.lop_desk.specs.Number.{digits_value}
 use Rattle.lop_words.specs.declared.command.Command.{Command}
-use Rattle.lop_words.specs.declared.command.Command.TheVariants.{Solve, Check}
+use Rattle.lop_words.specs.declared.command.Command.TheVariants.{Solve, Check, Value, Gen}
 use Rattle.lop_words.specs.declared.command.Format.{Format}
-use Rattle.lop_words.specs.Word.{is_name_word, format_of}
+use Rattle.lop_words.specs.Word.{is_name_word, format_of, is_seed, is_size}
 use Rattle.lop_words.specs.Options.{value_of, are_options, budget_of, certificate_of}
 
 -- `solve` with what its options say
@@ -24,19 +25,38 @@ check_command format file [] = None
 check_command format file (cert ∷ []) = if is_name_word cert then Some (Check format file cert) else None
 check_command format file (cert ∷ word ∷ words) = None
 
+-- behind FILE stands the name of an order's file
+abbrev pub value_command : Format → List ℕ → List (List ℕ) → Option Command
+value_command format file [] = None
+value_command format file (order_file ∷ []) = if is_name_word order_file then Some (Value format file order_file) else None
+value_command format file (order_file ∷ word ∷ words) = None
+
 -- the verb says what stands behind FILE
 abbrev pub verb_command : List ℕ → Format → List ℕ → List (List ℕ) → Option Command
 verb_command verb format file words =
-    if bytes_eq verb (codes "solve") then solve_command format file words else (if bytes_eq verb (codes "check") then check_command format file words else None)
+    if bytes_eq verb (codes "solve") then solve_command format file words
+    else (if bytes_eq verb (codes "check") then check_command format file words else (if bytes_eq verb (codes "value") then value_command format file words else None))
 
 -- the verb is followed by a format and FILE
 abbrev pub formatted_command : List ℕ → Option Format → List ℕ → List (List ℕ) → Option Command
 formatted_command verb None file words = None
 formatted_command verb (Some format) file words = if is_name_word file then verb_command verb format file words else None
 
+-- behind `gen` stand a seed and a number of objects, and nothing else
+abbrev pub gen_command : List ℕ → List ℕ → List (List ℕ) → Option Command
+gen_command seed n [] = if is_seed seed && is_size n then Some (Gen (digits_value seed) (digits_value n)) else None
+gen_command seed n (word ∷ words) = None
+
 -- the command that the words after the program's name spell
 abbrev pub command_of : List (List ℕ) → Option Command
 command_of [] = None
 command_of (verb ∷ []) = None
-command_of (verb ∷ format ∷ []) = None
-command_of (verb ∷ format ∷ file ∷ words) = formatted_command verb (format_of format) file words
+command_of (verb ∷ first ∷ []) = None
+command_of (verb ∷ first ∷ second ∷ words) = if bytes_eq verb (codes "gen") then gen_command first second words else formatted_command verb (format_of first) second words
+
+-- the budget of nodes, or the number of objects, is within its limits
+abbrev pub IsWithinLimits : Command → Type 0
+IsWithinLimits (Solve format file nodes cert) = (1 ≤ nodes) × (nodes ≤ 1000000)
+IsWithinLimits (Check format file cert) = ⊤
+IsWithinLimits (Value format file order_file) = ⊤
+IsWithinLimits (Gen seed n) = (1 ≤ n) × (n ≤ 512)

@@ -1,5 +1,5 @@
 -- The kinds of words.
-use Rattle.std.specs.Prelude.{ℕ, Bool, false, ◌&&◌, ◌||◌, ◌==◌, not, nat_lt, nat_le, List, [], ◌∷◌, length, slice_index, codes, Option, None, Some, if◌then◌else◌}
+use Rattle.std.specs.Prelude.{ℕ, ◌^◌, Bool, false, ◌&&◌, ◌||◌, ◌==◌, not, nat_lt, nat_le, List, [], ◌∷◌, length, slice_index, codes, Option, None, Some, if◌then◌else◌}
 use Rattle.std.specs.Str.{bytes_eq}
 use Rattle.lop_desk.specs.Number.{all_digits, digits_value}
 use Rattle.lop_words.specs.declared.command.Format.{Format}
@@ -21,3 +21,11 @@ is_plain word = nat_lt 0 (length word) && all_digits word && (not (slice_index w
 -- a plain number from 1 to 1,000,000
 abbrev pub is_budget : List ℕ → Bool
 is_budget word = is_plain word && nat_le 1 (digits_value word) && nat_le (digits_value word) 1000000
+
+-- a plain number of 64 bits
+abbrev pub is_seed : List ℕ → Bool
+is_seed word = is_plain word && nat_lt (digits_value word) (2 ^ 64)
+
+-- a plain number from 1 to 512
+abbrev pub is_size : List ℕ → Bool
+is_size word = is_plain word && nat_le 1 (digits_value word) && nat_le (digits_value word) 512

@@ -26,6 +26,17 @@ pub enum Command {
         file: NameWord,
         cert: NameWord,
     },
+    /// Weigh the order in the order file by the weights in the file.
+    Value {
+        format: Format,
+        file: NameWord,
+        order_file: NameWord,
+    },
+    /// Solve the weights of n objects that the seed gives.
+    Gen {
+        seed: u64,
+        n: u16,
+    },
 }
 
 /// Why the words are no command.

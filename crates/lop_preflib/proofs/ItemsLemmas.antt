@@ -98,8 +98,7 @@ module _ (n line : ℕ) (items others left : List (List ℕ)) (ranked : List ℕ
         let not_here : (value == v) ≡ false = grind (arith, nat_tests) in
         get_or-set_other seen value v true false other ∙ so_far.noted v low ∙ sym (or_last (stood_before (take (length ranked) items) v) false (value == v) not_here ∙ or_false (stood_before (take (length ranked) items) v))
 
-    -- one item more
-    pub are_read-more : (longer : List ℕ) → longer ≡ ranked ++ (value - 1) ∷ [] → get_or seen value false ≡ false → AreRead n line items others longer (set seen value true)
+    are_read-more : (longer : List ℕ) → longer ≡ ranked ++ (value - 1) ∷ [] → get_or seen value false ≡ false → AreRead n line items others longer (set seen value true)
     are_read-more longer is fresh =
         let k = length ranked in
         let long : length longer ≡ k + 1 = ap length is ∙ length_push ranked (value - 1) in
@@ -112,6 +111,10 @@ module _ (n line : ℕ) (items others left : List (List ℕ)) (ranked : List ℕ
           room = length-set seen value true ∙ so_far.room;
           noted = λ v low. rw (long, list_any_more (λ x. digits_value x == v) items k [] more, here.0, ← value_is) (noted_more v low (cases_eq v value));
         }
+
+    -- one item more
+    pub are_read-noted : (longer : List ℕ) (after : List Bool) → longer ≡ ranked ++ (value - 1) ∷ [] → after ≡ set seen value true → get_or seen value false ≡ false → AreRead n line items others longer after
+    are_read-noted longer after is noted fresh = subst (λ (s : List Bool). AreRead n line items others longer s) (sym noted) (are_read-more longer is fresh)
 
 -- all items are read
 module _ (n line : ℕ) (items left : List (List ℕ)) (ranked : List ℕ) (seen : List Bool) (so_far : AreRead n line items left ranked seen) (none : left ≡ []) where

@@ -1,4 +1,5 @@
 pub mod TextLemmas
+pub mod DigitLemmas
 pub mod LineLemmas
 pub mod FirstLemmas
 pub mod ItemsLemmas

@@ -1,5 +1,5 @@
 // Order lines.
-ghost use Rattle.std.specs.Prelude.{◌≡◌, ◌≤◌, ◌^◌, None, map, IfOk, IfErr, OnOk};
+ghost use Rattle.std.specs.Prelude.{◌≡◌, ◌≤◌, ◌^◌, true, false, None, map, slice_index_or, slice_set, IfOk, IfErr, OnOk};
 ghost use Rattle.lop_preflib.specs.Line.{items_in, object_of};
 ghost use Rattle.std.specs.List.{list_any};
 ghost use Rattle.lop_preflib.specs.Refusal.{is_brace, items_refusal, order_refusal};
@@ -8,8 +8,7 @@ ghost use Rattle.lop_preflib.specs.Steps.{IsStop, IsOrderRead};
 
 use crate::items::Items;
 use crate::refusal::PrefRefusal;
-use crate::text::{cut, number_up_to, trim};
-use memchr::memchr2;
+use crate::text::{cut, has_either, number_up_to, trim};
 
 // The greatest count, and the greatest number of voters.
 const MOST: u64 = 1_000_000_000_000_000_000;
@@ -17,10 +16,7 @@ const MOST: u64 = 1_000_000_000_000_000_000;
 fn has_brace(list: &[u8]) -> bool
     ensures { result ≡ list_any is_brace list.now }
 {
-    match memchr2(b'{', b'}', list) {
-        Some(_) => true,
-        None => false,
-    }
+    has_either(b'{', b'}', list)
 }
 
 /// Reads an order line: it answers the count, and leaves the objects in `ranked`. O(bytes).
@@ -52,6 +48,17 @@ pub(crate) fn read_order(
     Ok(count)
 }
 
+// Notes a number, and answers whether it was noted before.
+fn note(seen: &mut [bool; 513], number: u16) -> bool
+    requires { number ≤ 512 }
+    ensures stood { result ≡ slice_index_or seen.old number false }
+    ensures noted { seen.new ≡ slice_set seen.old number true }
+{
+    let stood = seen[number as usize];
+    seen[number as usize] = true;
+    stood
+}
+
 // Reads the items of an order.
 fn read_items(list: &[u8], n: u16, number: u64, ranked: &mut Vec<u16>) -> Result<(), PrefRefusal>
     requires { n ≤ 512 }
@@ -65,10 +72,9 @@ fn read_items(list: &[u8], n: u16, number: u64, ranked: &mut Vec<u16>) -> Result
         let Some(value) = number_up_to(item, n as u64) else {
             return Err(PrefRefusal::BadAlternative(number));
         };
-        if seen[value as usize] {
+        if note(&mut seen, value as u16) {
             return Err(PrefRefusal::Repeated(number));
         }
-        seen[value as usize] = true;
         ranked.push(value as u16 - 1)?;
     }
     Ok(())

@@ -73,6 +73,17 @@ fn loose_lines(rt: HostRuntime) -> Result<(), Fail> {
     )
 }
 
+// A line of many bytes: a name, and a number with zeros in front.
+#[test]
+fn long_words(rt: HostRuntime) -> Result<(), Fail> {
+    let mut text = Vec::from_slice(rt.alloc(), b"# NUMBER ALTERNATIVES: 2\n1: ")?;
+    let zeros = [b'0'; 10_000];
+    text.extend_from_slice(&zeros)?;
+    text.extend_from_slice(b"2,1\n# ALTERNATIVE NAME 2: ")?;
+    text.extend_from_slice(&zeros)?;
+    holds(&rt, rt.alloc(), &text, &[b"", &zeros], &[(1, &[1, 0])])
+}
+
 fn is_refused(rt: &impl Abort, alloc: Global, text: &str, refusal: PrefRefusal) {
     assert_eq!(rt;
         read_preflib(alloc, text.as_bytes()).err(),
@@ -110,6 +121,41 @@ fn texts_refused(rt: HostRuntime) {
             PrefRefusal::TooMany(3),
         ),
         ("# NUMBER ALTERNATIVES: 1\n", PrefRefusal::NoOrders),
+    ];
+    for (text, refusal) in texts {
+        is_refused(&rt, rt.alloc(), text, refusal);
+    }
+}
+
+// Words that are no digits, and numbers that a machine's word doesn't hold.
+#[test]
+fn numbers_refused(rt: HostRuntime) {
+    let texts = [
+        ("# NUMBER ALTERNATIVES: +3\n", PrefRefusal::SizeRange(1)),
+        (
+            "# NUMBER ALTERNATIVES: 18446744073709551617\n",
+            PrefRefusal::SizeRange(1),
+        ),
+        (
+            "# NUMBER ALTERNATIVES: 1\n1000000000000000001: 1\n",
+            PrefRefusal::BadCount(2),
+        ),
+        (
+            "# NUMBER ALTERNATIVES: 1\n18446744073709551617: 1\n",
+            PrefRefusal::BadCount(2),
+        ),
+        (
+            "# NUMBER ALTERNATIVES: 3\n1: 1,,2\n",
+            PrefRefusal::BadAlternative(2),
+        ),
+        (
+            "# NUMBER ALTERNATIVES: 3\n1: \n",
+            PrefRefusal::BadAlternative(2),
+        ),
+        (
+            "# NUMBER ALTERNATIVES: 3\n1: 1,18446744073709551618\n",
+            PrefRefusal::BadAlternative(2),
+        ),
     ];
     for (text, refusal) in texts {
         is_refused(&rt, rt.alloc(), text, refusal);

@@ -1,11 +1,10 @@
 // Bytes: blanks, cuts, and numbers.
-ghost use Rattle.std.specs.Prelude.{◌≡◌, ◌≤◌, ◌^◌, ◌==◌, ◌-◌, true, false, length, drop, MatchOption};
+ghost use Rattle.std.specs.Prelude.{◌≡◌, ◌≤◌, ◌^◌, ◌==◌, ◌||◌, ◌-◌, true, false, length, drop, MatchOption, min};
 ghost use Rattle.std.specs.List.{prefix_len, suffix_len, list_any, before_first, after_first};
-ghost use Rattle.lop_desk.specs.Number.{digits_value};
+ghost use Rattle.lop_desk.specs.Number.{all_digits, digits_value};
 ghost use Rattle.lop_preflib.specs.Text.{is_blank, trim, is_number_to, begins_with};
 
-use lop_desk::whole_number;
-use memchr::memchr;
+use memchr::{memchr, memchr2};
 
 fn is_blank(byte: u8) -> bool
     ensures { result ≡ is_blank byte }
@@ -59,6 +58,16 @@ pub(crate) fn cut(byte: u8, bytes: &[u8]) -> Option<(&[u8], &[u8])>
     }
 }
 
+/// Whether one of two bytes is there.
+pub(crate) fn has_either(first: u8, second: u8, bytes: &[u8]) -> bool
+    ensures { result ≡ list_any (λ b. b == first || b == second) bytes.now }
+{
+    match memchr2(first, second, bytes) {
+        Some(_) => true,
+        None => false,
+    }
+}
+
 /// What stands behind a label, where the bytes begin with it.
 pub(crate) fn behind<'a>(label: &[u8], bytes: &'a [u8]) -> Option<&'a [u8]>
     ensures { MatchOption result (begins_with label.now bytes.now ≡ false)
@@ -70,17 +79,32 @@ pub(crate) fn behind<'a>(label: &[u8], bytes: &'a [u8]) -> Option<&'a [u8]>
     Some(&bytes[label.len()..])
 }
 
-/// The value of a digit word, where it is from 1 to `most`.
+// More than any number that is asked for.
+const CAP: u64 = 1_000_000_000_000_000_001;
+
+// The value of digits, where all bytes are, but at most `CAP`.
+fn capped_value(word: &[u8]) -> Option<u64>
+    ensures { MatchOption result (all_digits word.now ≡ false)
+        (λ value. (all_digits word.now ≡ true) × (value ≡ min (digits_value word.now) CAP)) }
+{
+    let mut value: u64 = 0;
+    for digit in word {
+        if *digit < b'0' || *digit > b'9' {
+            return None;
+        }
+        value = (value * 10 + u64::from(*digit - b'0')).min(CAP);
+    }
+    Some(value)
+}
+
+/// The value of a digit word, where it is from 1 to `most`. O(k) for k bytes.
 pub(crate) fn number_up_to(word: &[u8], most: u64) -> Option<u64>
     requires { most ≤ 10 ^ 18 }
     ensures { MatchOption result (is_number_to most word.now ≡ false)
         (λ n. (is_number_to most word.now ≡ true) × (n ≡ digits_value word.now) × (1 ≤ n) × (n ≤ most)) }
 {
-    if word.is_empty() || word[0] < b'0' || word[0] > b'9' {
-        return None;
-    }
-    match whole_number(word) {
-        Some(value) if value >= 1 && value <= i128::from(most) => Some(value as u64),
+    match capped_value(word) {
+        Some(value) if value >= 1 && value <= most => Some(value),
         _ => None,
     }
 }

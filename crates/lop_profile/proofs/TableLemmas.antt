@@ -1,5 +1,5 @@
 -- The cells of the preference matrix.
-use Rattle.std.proofs.Common.{◌≡◌, ℕ, zero, suc, ◌+◌, ◌*◌, ◌/◌, ◌%◌, ◌<◌, ◌≤◌, ◌^◌, unsigned_abs, Bool, true, false, cond, List, [], length, take, drop, map, get_or, ℤ, pos, ◌+ℤ◌, ◌≤ℤ◌, ◌<ℤ◌, Ok, Err, sym, ◌∙◌, ap, subst, arith}
+use Rattle.std.proofs.Common.{◌≡◌, ℕ, zero, suc, ◌+◌, ◌*◌, ◌/◌, ◌%◌, ◌<◌, ◌≤◌, ◌^◌, unsigned_abs, Bool, true, false, cond, List, [], length, take, drop, map, get_or, ℤ, pos, ◌+ℤ◌, ◌≤ℤ◌, ◌<ℤ◌, Ok, Err, refl, sym, ◌∙◌, ap, subst, arith}
 use Rattle.std.specs.Prelude.{int_lt}
 use Rattle.std.specs.List.{range_with_len, All}
 use Rattle.std.proofs.lemmas.List.{take_all, get_or_default, get_or-take, get_or-drop, get_or-map, length-take, length-drop, length-map, same_lists}
@@ -7,10 +7,14 @@ use Rattle.std.proofs.lemmas.List.FromFn.{get_or-map-range_with_len, length-map-
 use Rattle.std.proofs.lemmas.Nat.{div_below, mod_below, div-add-mod'}
 use Rattle.std.proofs.lemmas.Int.{ints}
 use Rattle.lop_model.specs.Matrix.{Matrix, matrix_of, entry, pair_total, pair_absolute, total, absolute_total, IsShaped}
+use Rattle.lop_model.specs.WeightsFault.{IsFault as IsWeightsFault}
+use Rattle.lop_model.specs.declared.weights.WeightsFault.{WeightsFault}
+use Rattle.lop_model.specs.declared.weights.WeightsFault.TheVariants.{Size, TooHeavy as Heavy}
 use Rattle.lop_model.proofs.SumLemmas.{pair_sum-same}
 use Rattle.lop_preflib.specs.Profile.{CountedOrder, ProfileFields, IsProfile, votes, order_at}
 use Rattle.lop_profile.specs.Preference.{ranks_before, preference, preference_matrix}
-use Rattle.lop_profile.specs.Reading.{profile_reading}
+use Rattle.lop_profile.specs.Reading.{profile_reading, IsFault}
+use Rattle.lop_profile.specs.declared.profile.ProfileFault.{ProfileFault}
 use Rattle.lop_profile.specs.declared.profile.ProfileFault.TheVariants.{TooHeavy}
 use Rattle.lop_profile.proofs.VoteLemmas.{preference-more, preference-fits, preference-le}
 use Rattle.lop_profile.proofs.PairLemmas.{row_le}
@@ -130,3 +134,8 @@ module _ (profile : ProfileFields) (n : ℕ) (cells : List ℕ) (size : profile.
       within_limit = omega (arith, of_profile.within_limit, size);
       square = ap length entries_are ∙ length-map cells pos ∙ all.square;
     }
+
+    -- why the weights are refused is why the profile is
+    pub fault-heavy : IsProfile profile → (fault : WeightsFault) (told : ProfileFault) → IsWeightsFault n entries fault → ((sum : ℤ) → fault ≡ Heavy sum → told ≡ TooHeavy sum) → IsFault (profile_reading profile) told
+    fault-heavy of_profile Size told is says = absurd (is (IsShaped-cells of_profile))
+    fault-heavy of_profile (Heavy sum) told is says = rw (says sum refl) (reading-heavy sum is.1 is.2)

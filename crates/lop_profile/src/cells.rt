@@ -1,5 +1,5 @@
 // Counts, added to the cells of a matrix.
-ghost use Rattle.std.specs.Prelude.{◌≡◌, ◌≢◌, ℕ, ◌+◌, ◌*◌, ◌<◌, ◌≤◌, ◌^◌, All, length, slice_index, if◌then◌else◌};
+ghost use Rattle.std.specs.Prelude.{◌≡◌, ◌≢◌, ℕ, ◌+◌, ◌*◌, ◌<◌, ◌≤◌, ◌^◌, All, length, drop, slice_index, if◌then◌else◌};
 ghost use Rattle.lop_profile.specs.Preference.{stands_in, ranks_before};
 ghost use Rattle.lop_profile.specs.Cells.{IsRanking};
 
@@ -14,6 +14,14 @@ fn add_row(row: &mut [u64], count: u64, places: &[u16])
     }
 }
 
+// The objects behind a place.
+fn later(ranked: &[u16], place: usize) -> &[u16]
+    requires { place < length ranked.now }
+    ensures { result.now ≡ drop (place + 1) ranked.now }
+{
+    &ranked[place + 1..]
+}
+
 /// Adds a count to the cells of all pairs that an order ranks, in n rows of n cells. O(k²) for k objects.
 pub(crate) fn add_order(cells: &mut [u64], n: usize, count: u64, ranked: &[u16])
     requires square { length cells.old ≡ n * n }
@@ -24,6 +32,6 @@ pub(crate) fn add_order(cells: &mut [u64], n: usize, count: u64, ranked: &[u16])
 {
     for (place, object) in ranked.iter().enumerate() {
         let start = *object as usize * n;
-        add_row(&mut cells[start..start + n], count, &ranked[place + 1..]);
+        add_row(&mut cells[start..start + n], count, later(ranked, place));
     }
 }

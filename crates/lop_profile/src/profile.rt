@@ -1,8 +1,10 @@
 // The weights of a profile.
-ghost use Rattle.std.specs.Prelude.{◌≡◌, ◌*◌, ◌≤◌, ◌^◌, All, Ok, map, pos, IfOk, IfErr};
-ghost use Rattle.lop_preflib.specs.Profile.{votes};
+ghost use Rattle.std.specs.Prelude.{◌≡◌, ◌≢◌, ℕ, ℤ, ◌+◌, ◌*◌, ◌<◌, ◌≤◌, ◌^◌, All, Ok, length, map, slice_index, pos, IfOk, IfErr};
+ghost use Rattle.lop_model.specs.declared.weights.WeightsFault.TheVariants.{Size, TooHeavy as Heavy};
+ghost use Rattle.lop_preflib.specs.Profile.{votes, order_at};
+ghost use Rattle.lop_profile.specs.Preference.{order_preference};
 ghost use Rattle.lop_profile.specs.Reading.{profile_reading, IsFault};
-ghost use Rattle.lop_profile.specs.declared.profile.ProfileFault.TheVariants.{Memory};
+ghost use Rattle.lop_profile.specs.declared.profile.ProfileFault.TheVariants.{TooHeavy, Memory};
 
 use crate::cells::add_order;
 use lop_model::{Weights, WeightsFault};
@@ -43,19 +45,37 @@ pub fn pair_weights(alloc: Global, profile: &Profile) -> Result<Weights, Profile
     let n = profile.n();
     let size = n as usize;
     let mut cells = vec![in alloc; 0u64; size * size]?;
-    for index in 0..profile.orders() {
-        add_order(
-            &mut cells,
-            size,
-            profile.count(index),
-            profile.ranked(index),
-        );
+    let orders = profile.orders();
+    for index in 0..orders {
+        count_order(&mut cells, profile, index);
     }
     let entries = signed(alloc, &cells)?;
     match Weights::new(n, entries) {
         Ok(weights) => Ok(weights),
-        Err(WeightsFault::TooHeavy(sum)) => Err(ProfileFault::TooHeavy(sum)),
-        Err(WeightsFault::Size) => unreachable!(),
+        Err(fault) => Err(too_heavy(fault)),
+    }
+}
+
+// Adds an order of the profile to the cells.
+fn count_order(cells: &mut [u64], profile: &Profile, index: usize)
+    requires index { index < length profile.now.orders }
+    requires square { length cells.old ≡ profile.now.size * profile.now.size }
+    requires small { All (λ cell. cell + (order_at profile.now.orders index).count ≤ 10 ^ 18) cells.old }
+    ensures { (i j : ℕ) → i < profile.now.size → j < profile.now.size → slice_index cells.new (i * profile.now.size + j) ≡ slice_index cells.old (i * profile.now.size + j) + order_preference i j (order_at profile.now.orders index) }
+{
+    let n = profile.n() as usize;
+    let ranked = profile.ranked(index);
+    add_order(cells, n, profile.count(index), ranked);
+}
+
+// What weights that are too heavy say of a profile.
+fn too_heavy(fault: WeightsFault) -> ProfileFault
+    requires { fault ≢ Size }
+    ensures { (sum : ℤ) → fault ≡ Heavy sum → result ≡ TooHeavy sum }
+{
+    match fault {
+        WeightsFault::TooHeavy(sum) => ProfileFault::TooHeavy(sum),
+        WeightsFault::Size => unreachable!(),
     }
 }
 

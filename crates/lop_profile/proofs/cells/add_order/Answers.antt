@@ -1,5 +1,5 @@
 use Rattle.std.proofs.Common.{◌≡◌, ◌+◌, ◌-◌, ◌*◌, ◌<◌, ◌≤◌, ℕ, List, cond, length, take, drop, get_or, ◌∙◌, ap, arith}
-use Rattle.std.proofs.lemmas.List.{take_rest, get_or-take, get_or-drop, length-take, length-drop, get_or_default}
+use Rattle.std.proofs.lemmas.List.{get_or-take, get_or-drop, length-take, length-drop, get_or_default}
 use Rattle.lop_profile.specs.Preference.{stands_in}
 use Rattle.lop_profile.proofs.PairLemmas.{row_before, row_le, pairs_added-more}
 use Rattle.lop_profile.proofs.cells.add_order.Goals as goal
@@ -39,5 +39,5 @@ loop-place-preserved c =
     let fits : s + n ≤ length cells = omega (arith, row_le a n n (c.requires.ranked.below p within), c.requires.square) in
     let long : length c.add_row.new.row ≡ n = omega (arith, c.add_row.auto.row, row_length cells s n fits) in
     pairs_added-more c.args.cells.now cells n c.args.count ranked p c.requires.ranked within c.loop-place.invariant
-    (s + n - s) c.add_row.new.row (take (length ranked - (p + 1)) (drop (p + 1) ranked)) (omega arith) (c.loop-place.auto.cells ∙ c.requires.square) long (take_rest ranked (p + 1))
-    (λ j low. c.add_row.ensures j (omega (arith, low, row_length cells s n fits)) ∙ ap (λ (v : ℕ). v + cond (stands_in (take (length ranked - (p + 1)) (drop (p + 1) ranked)) j) c.args.count 0) (in_row cells s n j low))
+    (s + n - s) c.add_row.new.row c.later.result.now (omega arith) (c.loop-place.auto.cells ∙ c.requires.square) long c.later.ensures
+    (λ j low. c.add_row.ensures j (omega (arith, low, row_length cells s n fits)) ∙ ap (λ (v : ℕ). v + cond (stands_in c.later.result.now j) c.args.count 0) (in_row cells s n j low))

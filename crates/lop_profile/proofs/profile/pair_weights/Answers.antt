@@ -1,20 +1,15 @@
-use Rattle.std.proofs.Common.{map, pos, Err, FitsSigned, rules, ◌≡◌, ◌+◌, ◌<◌, ◌≤◌, ◌^◌, ℕ, ℤ, List, length, sym, ◌∙◌, ap, subst, arith}
-use Rattle.std.specs.Int.{w128}
+use Rattle.std.proofs.Common.{map, pos, ◌≡◌, ◌+◌, ◌<◌, ◌≤◌, ◌^◌, ℕ, List, length, refl, sym, ◌∙◌, ap, subst, arith}
 use Rattle.std.specs.List.{All}
-use Rattle.std.proofs.lemmas.Int.{to_z-of_z}
-use Rattle.lop_model.specs.WeightsFault.{IsFault}
-use Rattle.lop_model.specs.declared.weights.WeightsFault.{WeightsFault}
-use Rattle.lop_preflib.specs.Profile.{CountedOrder}
-use Rattle.lop_profile.specs.declared.profile.ProfileFault.TheVariants.{TooHeavy}
-use Rattle.lop_profile.proofs.TableLemmas.{AreCells, cells_bounded, cells_small, reading-weights, reading-heavy}
+use Rattle.lop_preflib.specs.Profile.{CountedOrder, order_at}
+use Rattle.lop_profile.proofs.TableLemmas.{AreCells, cells_bounded, cells_small, reading-weights, fault-heavy}
 use Rattle.lop_profile.proofs.profile.pair_weights.Goals as goal
 
-pub add_order-requires-clause-small : goal.add_order-requires-clause-small
-add_order-requires-clause-small c =
+pub count_order-requires-clause-small : goal.count_order-requires-clause-small
+count_order-requires-clause-small c =
     let orders = c.args.profile.now.orders in
     let within : c.loop-index.index < length orders = omega arith in
-    subst (λ (l : List ℕ). All (λ cell. cell + c.count.result ≤ 10 ^ 18) l) (sym c.deref_mut.ensures.value)
-    (cells_small c.n-n.result orders c.loop-index.index c.loop-index.cells.items c.loop-index.invariant within c.n-n.ensures.profile.few c.count.result c.count.ensures)
+    subst (λ (l : List ℕ). All (λ cell. cell + (order_at orders c.loop-index.index).count ≤ 10 ^ 18) l) (sym c.deref_mut.ensures.value)
+    (cells_small c.n-n.result orders c.loop-index.index c.loop-index.cells.items c.loop-index.invariant within c.n-n.ensures.profile.few (order_at orders c.loop-index.index).count refl)
 
 pub signed-requires : goal.signed-requires
 signed-requires c =
@@ -29,20 +24,18 @@ returns-in-Ok-clause-weights c =
     let profile = c.args.profile.now in
     let n = c.n-n.result in
     let cells = c.loop-index.cells.items in
-    let all = all_counted n profile.orders c.loop-index.index c.orders-index-end.result cells c.loop-index.invariant c.loop-index.auto.index-end c.loop-index-test.false c.orders-index-end.ensures in
+    let all = all_counted n profile.orders c.loop-index.index c.orders-orders.result cells c.loop-index.invariant c.loop-index.auto.index-end c.loop-index-test.false c.orders-orders.ensures in
     let entries = c.in_ok-entries.entries.items in
     let entries_are : entries ≡ map pos cells = c.in_ok-entries.ensures.entries ∙ ap (map pos) c.deref.ensures.value in
     let made = c.in-Ok.ensures.ok in
     reading-weights profile n cells (sym c.n-n.ensures.size) all entries entries_are c.in-Ok.weights made.1 made.0.bounded_sum
 
-pub returns-in-Err-TooHeavy-clause-fault : goal.returns-in-Err-TooHeavy-clause-fault
-returns-in-Err-TooHeavy-clause-fault c =
+pub returns-clause-fault : goal.returns-clause-fault
+returns-clause-fault c =
     let profile = c.args.profile.now in
     let n = c.n-n.result in
     let cells = c.loop-index.cells.items in
-    let all = all_counted n profile.orders c.loop-index.index c.orders-index-end.result cells c.loop-index.invariant c.loop-index.auto.index-end c.loop-index-test.false c.orders-index-end.ensures in
+    let all = all_counted n profile.orders c.loop-index.index c.orders-orders.result cells c.loop-index.invariant c.loop-index.auto.index-end c.loop-index-test.false c.orders-orders.ensures in
     let entries = c.in_ok-entries.entries.items in
     let entries_are : entries ≡ map pos cells = c.in_ok-entries.ensures.entries ∙ ap (map pos) c.deref.ensures.value in
-    let fault = subst (λ (f : WeightsFault). IsFault n entries f) c.in-Err-TooHeavy.field-0-is c.in-Err-TooHeavy.ensures.fault in
-    let fits : FitsSigned w128 c.in-Err-TooHeavy.sum = search rules in
-    reading-heavy profile n cells (sym c.n-n.ensures.size) all entries entries_are c.in-Err-TooHeavy.sum fault.1 fault.2 ∙ ap (λ (x : ℤ). Err (TooHeavy x)) (sym (to_z-of_z w128 c.in-Err-TooHeavy.sum fits))
+    fault-heavy profile n cells (sym c.n-n.ensures.size) all entries entries_are c.n-n.ensures.profile c.in-Err.fault c.too_heavy.result c.in-Err.ensures.fault c.too_heavy.ensures

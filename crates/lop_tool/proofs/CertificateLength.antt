@@ -6,19 +6,13 @@ use Rattle.lop_core.specs.Core.{CoreFields}
 use Rattle.lop_core.specs.Machine.{SearchState}
 use Rattle.lop_core.specs.Journal.{replay}
 use Rattle.lop_core.proofs.Counts.{counted}
-use Rattle.lop_certtext.specs.Line.{CertLine}
 use Rattle.lop_certtext.specs.CutLine.{cut_line}
 use Rattle.lop_certtext.specs.Tree.{Tree, tree_lines}
 use Rattle.lop_certtext.specs.declared.word.CertWord.TheVariants.{End}
-use Rattle.lop_certtext.specs.Certificate.{Certificate, certificate_lines, certificate_text, text_of, IsTreeCertificate}
-use Rattle.lop_certtext.proofs.AcceptedText.{AreWritten, length-text_of, lines_written}
+use Rattle.lop_certtext.specs.Certificate.{Certificate, certificate_lines, certificate_text, IsTreeCertificate}
+use Rattle.lop_certtext.proofs.AcceptedText.{short_text, lines_written}
 use Rattle.lop_certwrite.specs.CoreTree.{NodeTree, one_node, two_below, node_count, certificate_tree, IsCertificateOf}
 use Rattle.lop_tool.specs.Reply.{IsSolved}
-
--- lines that may be written are short
-short_text : (ls : List CertLine) → AreWritten ls → length (text_of ls) ≤ 131072 * length ls
-short_text [] w = omega arith
-short_text (l ∷ ls) w = omega (arith, length-text_of l ls, w.0.short, short_text ls w.1)
 
 -- a tree has a line for each node
 length-tree_lines : (records : List NodeRecord) (t : NodeTree) → length (tree_lines (certificate_tree records t)) ≡ node_count t

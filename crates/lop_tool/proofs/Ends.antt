@@ -4,7 +4,7 @@ use Rattle.lop_desk.specs.World.{World, NamedFile, with_printed}
 use Rattle.lop_desk.specs.Whole.{PrintsFront}
 use Rattle.lop_desk.specs.Causes.{Rose}
 use Rattle.lop_desk.proofs.Printing.{rose_from}
-use Rattle.lop_tool.specs.declared.words.Command.{Command}
+use Rattle.lop_words.specs.declared.command.Command.{Command}
 use Rattle.lop_tool.specs.declared.reply.Reply.{Reply}
 use Rattle.lop_core.specs.Core.{CoreFields}
 use Rattle.lop_tool.specs.Keeping.{Delivered, whole, part, fault}
@@ -27,10 +27,10 @@ ends_refused_cut old new before now rose (n, prints) = cut_off (Refused Words) n
 -- what one property says of the file that a reply leaves, another says too
 pub LeavesCertificate-map : (name : Option (List ℕ)) (core : CoreFields) (P Q : Option NamedFile → Type 0) → ((file : Option NamedFile) → P file → Q file) → LeavesCertificate name core P → LeavesCertificate name core Q
 LeavesCertificate-map None core P Q f leaves = f None leaves
-LeavesCertificate-map (Some name) core P Q f leaves = record { certificate = leaves.certificate; of_core = leaves.of_core; holds = leaves.holds; has = f _ leaves.has }
+LeavesCertificate-map (Some name) core P Q f leaves = record { certificate = leaves.certificate; of_core = leaves.of_core; holds = leaves.holds; enough = leaves.enough; has = f _ leaves.has }
 
 pub LeavesFile-map : (name : Option (List ℕ)) (reply : Reply) (P Q : Option NamedFile → Type 0) → ((file : Option NamedFile) → P file → Q file) → LeavesFile name reply P → LeavesFile name reply Q
-LeavesFile-map name (Solved core) P Q f leaves = LeavesCertificate-map name core P Q f leaves
+LeavesFile-map name (Solved x) P Q f leaves = LeavesCertificate-map name x.core P Q f leaves
 LeavesFile-map name (Checked x) P Q f leaves = f None leaves
 LeavesFile-map name (Valued x) P Q f leaves = f None leaves
 LeavesFile-map name (Generated x) P Q f leaves = f None leaves

@@ -1,9 +1,7 @@
-pub mod Printed
 pub mod CheckLemmas
 pub mod Ends
 pub mod Promises
 pub mod CertificateLength
 pub mod Agreement
-pub mod Budget
 pub mod SearchedLemmas
 pub mod ValueLemmas

@@ -3,11 +3,12 @@ use Rattle.std.proofs.Common.{◌≡◌, ◌⊎◌, ℕ, ◌<◌, Bool, true, fa
 use Rattle.lop_desk.specs.World.{World, file_named, with_printed}
 use Rattle.lop_desk.specs.Causes.{Rose}
 use Rattle.lop_desk.specs.Desk.{IsMissing}
-use Rattle.lop_model.specs.Matrix.{Matrix}
+use Rattle.lop_tool.specs.declared.input.Instance.{Instance}
 use Rattle.lop_certtext.specs.declared.reason.Reason.{Reason}
 use Rattle.lop_certtext.specs.Answer.{CheckAnswer, accepted, rejected, too_long, check_answer}
-use Rattle.lop_tool.specs.declared.words.Command.{Command}
-use Rattle.lop_tool.specs.declared.words.Command.TheVariants.{Solve, Check, Value, Gen}
+use Rattle.lop_words.specs.declared.command.Format.{Format}
+use Rattle.lop_words.specs.declared.command.Command.{Command}
+use Rattle.lop_words.specs.declared.command.Command.TheVariants.{Solve, Check, Value, Gen}
 use Rattle.lop_tool.specs.declared.reply.InputRefusal.{InputRefusal}
 use Rattle.lop_tool.specs.declared.reply.OrderFileRefusal.{OrderFileRefusal}
 use Rattle.lop_tool.specs.declared.reply.Refusal.{Refusal}
@@ -17,10 +18,10 @@ use Rattle.lop_tool.specs.declared.reply.Outcome.TheVariants.{Accepted, Rejected
 use Rattle.lop_tool.specs.declared.reply.Reply.{Reply}
 use Rattle.lop_tool.specs.declared.reply.Reply.TheVariants.{Refused, Solved, Checked, Valued, Generated}
 use Rattle.lop_core.specs.Machine.{state_bound}
-use Rattle.lop_tool.specs.AnswerText.{is_optimal}
+use Rattle.lop_report.specs.Lines.{is_optimal}
 use Rattle.lop_tool.specs.Input.{input_named, reading_of, order_named, order_reading_of}
 use Rattle.lop_tool.specs.Reply.{generation_text, reply_status, outcome_status, outcome_text, refusal_line}
-use Rattle.lop_tool.specs.Run.{settled, Ended, replied, cut_off, faulted, lacked, Answers, Faulted, PrintsOnly, IsChecked, IsBounded, IsRejection, IsRejected, IsRefused, PrintsRejection, PrintsRefusal, answer_of, ExactlyWhere, SolvesFile, AcceptsCertificate, Accepts, EndsBy, IsComplete, Refuses, input_file, input_at, WeighsOrder, GeneratesWeights, IsWeighedOrder, IsRefusedOrder}
+use Rattle.lop_tool.specs.Run.{settled, Ended, replied, cut_off, faulted, lacked, Answers, Faulted, PrintsOnly, IsChecked, IsBounded, IsRejection, IsRejected, IsRefused, PrintsRejection, PrintsRefusal, answer_of, ExactlyWhere, SolvesFile, AcceptsCertificate, Accepts, EndsBy, IsComplete, Refuses, command_input, WeighsOrder, GeneratesWeights, IsWeighedOrder, IsRefusedOrder}
 
 -- ---- statuses
 
@@ -39,11 +40,11 @@ solved_not false status k is some less same = omega arith
 
 -- ---- what is known of a certificate is known for sure
 
-same_answer : (file cert : List ℕ) (w : World) (C D : Matrix) (a b : CheckAnswer) → IsChecked file cert w C a → IsChecked file cert w D b → a ≡ b
-same_answer file cert w C D a b first second =
+same_answer : (format : Format) (file cert : List ℕ) (w : World) (C D : Instance) (a b : CheckAnswer) → IsChecked format file cert w C a → IsChecked format file cert w D b → a ≡ b
+same_answer format file cert w C D a b first second =
     let same : C ≡ D = cc (first.accepted_file, second.accepted_file) in
     let read : first.bytes ≡ second.bytes = cc (first.there, second.there) in
-    sym first.answer_is ∙ ap (λ (x : Matrix). check_answer x first.bytes) same ∙ ap (check_answer D) read ∙ second.answer_is
+    sym first.answer_is ∙ ap (λ (x : Instance). check_answer x.weights first.bytes) same ∙ ap (check_answer D.weights) read ∙ second.answer_is
 
 rejected_status : (o : Outcome) (line : ℕ) (reason : Reason) → answer_of o ≡ rejected line reason → outcome_status o ≡ 1
 rejected_status (Accepted value bound) line reason is = absurd cc
@@ -61,10 +62,10 @@ ends_by : (o : Outcome) (status : ℕ) → status ≡ outcome_status o → EndsB
 ends_by (Accepted value bound) status is = inl is
 ends_by (Rejected line reason) status is = inl is
 
-accepts_by : (file cert : List ℕ) (w : World) (old new : Option World) (status : ℕ) (C : Matrix) (o : Outcome) → IsBounded C o → IsChecked file cert w C (answer_of o) → status ≡ outcome_status o → PrintsOnly old new (outcome_text o)
-    → (status ≡ 0) ⊎ (status ≡ 6) → Accepts file cert w old new status
-accepts_by file cert w old new status C (Accepted value bound) bounds checked is prints ends = record {
-  weights = C;
+accepts_by : (format : Format) (file cert : List ℕ) (w : World) (old new : Option World) (status : ℕ) (C : Instance) (o : Outcome) → IsBounded C.weights o → IsChecked format file cert w C (answer_of o) → status ≡ outcome_status o → PrintsOnly old new (outcome_text o)
+    → (status ≡ 0) ⊎ (status ≡ 6) → Accepts format file cert w old new status
+accepts_by format file cert w old new status C (Accepted value bound) bounds checked is prints ends = record {
+  input = C;
   value = value;
   bound = bound;
   checked = checked;
@@ -73,81 +74,81 @@ accepts_by file cert w old new status C (Accepted value bound) bounds checked is
   status_is = is;
   text = prints;
 }
-accepts_by file cert w old new status C (Rejected line reason) bounds checked is prints ends = absurd (not_solved status (omega arith) (omega arith) ends)
+accepts_by format file cert w old new status C (Rejected line reason) bounds checked is prints ends = absurd (not_solved status (omega arith) (omega arith) ends)
 
-rejects_by : (file cert : List ℕ) (w : World) (old new : Option World) (status : ℕ) (C : Matrix) (o : Outcome) → IsChecked file cert w C (answer_of o) → status ≡ outcome_status o → PrintsOnly old new (outcome_text o) → status ≡ 1
-    → PrintsRejection (Some (Check file cert)) w old new
-rejects_by file cert w old new status C (Accepted value bound) checked is prints one = absurd (solved_not (is_optimal value bound) status 1 is (omega arith) (omega arith) one)
-rejects_by file cert w old new status C (Rejected line reason) checked is prints one = (line, reason, record { weights = C; checked = checked }, prints)
+rejects_by : (format : Format) (file cert : List ℕ) (w : World) (old new : Option World) (status : ℕ) (C : Instance) (o : Outcome) → IsChecked format file cert w C (answer_of o) → status ≡ outcome_status o → PrintsOnly old new (outcome_text o) → status ≡ 1
+    → PrintsRejection (Some (Check format file cert)) w old new
+rejects_by format file cert w old new status C (Accepted value bound) checked is prints one = absurd (solved_not (is_optimal value bound) status 1 is (omega arith) (omega arith) one)
+rejects_by format file cert w old new status C (Rejected line reason) checked is prints one = (line, reason, record { input = C; checked = checked }, prints)
 
 -- ---- the clauses
 
 pub solves : (command : Option Command) (old new : Option World) (before now status : ℕ) → Ended command old new before now status → IfSome old (λ w. SolvesFile command w old new status)
 solves command None new before now status ended = tt
 solves None (Some w) new before now status ended = tt
-solves (Some (Check file cert)) (Some w) new before now status ended = tt
-solves (Some (Value file order_file)) (Some w) new before now status ended = tt
+solves (Some (Check format file cert)) (Some w) new before now status ended = tt
+solves (Some (Value format file order_file)) (Some w) new before now status ended = tt
 solves (Some (Gen seed n)) (Some w) new before now status ended = tt
-solves (Some (Solve file nodes cert)) (Some w) new before now status (replied (Solved x) answers is left) = λ _. record {
-  core = x;
+solves (Some (Solve format file nodes cert)) (Some w) new before now status (replied (Solved x) answers is left) = λ _. record {
+  solution = x;
   accepted_file = answers.1;
   solved = answers.0;
   status_is = is;
   left = left;
 }
-solves (Some (Solve file nodes cert)) (Some w) new before now status (replied (Checked x) answers is left) = λ _. absurd answers
-solves (Some (Solve file nodes cert)) (Some w) new before now status (replied (Valued x) answers is left) = λ _. absurd answers
-solves (Some (Solve file nodes cert)) (Some w) new before now status (replied (Generated x) answers is left) = λ _. absurd answers
-solves (Some (Solve file nodes cert)) (Some w) new before now status (replied (Refused (Order r)) answers is left) = λ _. absurd answers
-solves (Some (Solve file nodes cert)) (Some w) new before now status (replied (Refused Words) answers is left) = λ _. absurd answers
-solves (Some (Solve file nodes cert)) (Some w) new before now status (replied (Refused LongCertificate) answers is left) = λ _. absurd answers
-solves (Some (Solve file nodes cert)) (Some w) new before now status (replied (Refused (Input r)) answers is left) = λ ends. absurd (not_solved status (omega arith) (omega arith) ends)
-solves (Some (Solve file nodes cert)) (Some w) new before now status (cut_off reply n is fault answers left) = λ ends. absurd (not_solved status (omega arith) (omega arith) ends)
-solves (Some (Solve file nodes cert)) (Some w) new before now status (faulted is fault leaves) = λ ends. absurd (not_solved status (omega arith) (omega arith) ends)
-solves (Some (Solve file nodes cert)) (Some w) new before now status (lacked is leaves) = λ ends. absurd (not_solved status (omega arith) (omega arith) ends)
+solves (Some (Solve format file nodes cert)) (Some w) new before now status (replied (Checked x) answers is left) = λ _. absurd answers
+solves (Some (Solve format file nodes cert)) (Some w) new before now status (replied (Valued x) answers is left) = λ _. absurd answers
+solves (Some (Solve format file nodes cert)) (Some w) new before now status (replied (Generated x) answers is left) = λ _. absurd answers
+solves (Some (Solve format file nodes cert)) (Some w) new before now status (replied (Refused (Order r)) answers is left) = λ _. absurd answers
+solves (Some (Solve format file nodes cert)) (Some w) new before now status (replied (Refused Words) answers is left) = λ _. absurd answers
+solves (Some (Solve format file nodes cert)) (Some w) new before now status (replied (Refused LongCertificate) answers is left) = λ _. absurd answers
+solves (Some (Solve format file nodes cert)) (Some w) new before now status (replied (Refused (Input r)) answers is left) = λ ends. absurd (not_solved status (omega arith) (omega arith) ends)
+solves (Some (Solve format file nodes cert)) (Some w) new before now status (cut_off reply n is fault answers left) = λ ends. absurd (not_solved status (omega arith) (omega arith) ends)
+solves (Some (Solve format file nodes cert)) (Some w) new before now status (faulted is fault leaves) = λ ends. absurd (not_solved status (omega arith) (omega arith) ends)
+solves (Some (Solve format file nodes cert)) (Some w) new before now status (lacked is leaves) = λ ends. absurd (not_solved status (omega arith) (omega arith) ends)
 
 pub checks : (command : Option Command) (old new : Option World) (before now status : ℕ) → Ended command old new before now status → IfSome old (λ w. AcceptsCertificate command w old new status)
 checks command None new before now status ended = tt
 checks None (Some w) new before now status ended = tt
-checks (Some (Solve file nodes cert)) (Some w) new before now status ended = tt
-checks (Some (Value file order_file)) (Some w) new before now status ended = tt
+checks (Some (Solve format file nodes cert)) (Some w) new before now status ended = tt
+checks (Some (Value format file order_file)) (Some w) new before now status ended = tt
 checks (Some (Gen seed n)) (Some w) new before now status ended = tt
-checks (Some (Check file cert)) (Some w) new before now status (replied (Checked x) answers is left) = accepts_by file cert w (Some w) new status x.weights x.outcome answers.0 answers.1 is left
-checks (Some (Check file cert)) (Some w) new before now status (replied (Solved x) answers is left) = λ _. absurd answers
-checks (Some (Check file cert)) (Some w) new before now status (replied (Valued x) answers is left) = λ _. absurd answers
-checks (Some (Check file cert)) (Some w) new before now status (replied (Generated x) answers is left) = λ _. absurd answers
-checks (Some (Check file cert)) (Some w) new before now status (replied (Refused (Order r)) answers is left) = λ _. absurd answers
-checks (Some (Check file cert)) (Some w) new before now status (replied (Refused Words) answers is left) = λ _. absurd answers
-checks (Some (Check file cert)) (Some w) new before now status (replied (Refused LongCertificate) answers is left) = λ ends. absurd (not_solved status (omega arith) (omega arith) ends)
-checks (Some (Check file cert)) (Some w) new before now status (replied (Refused (Input r)) answers is left) = λ ends. absurd (not_solved status (omega arith) (omega arith) ends)
-checks (Some (Check file cert)) (Some w) new before now status (cut_off reply n is fault answers left) = λ ends. absurd (not_solved status (omega arith) (omega arith) ends)
-checks (Some (Check file cert)) (Some w) new before now status (faulted is fault leaves) = λ ends. absurd (not_solved status (omega arith) (omega arith) ends)
-checks (Some (Check file cert)) (Some w) new before now status (lacked is leaves) = λ ends. absurd (not_solved status (omega arith) (omega arith) ends)
+checks (Some (Check format file cert)) (Some w) new before now status (replied (Checked x) answers is left) = accepts_by format file cert w (Some w) new status x.input x.outcome answers.0 answers.1 is left
+checks (Some (Check format file cert)) (Some w) new before now status (replied (Solved x) answers is left) = λ _. absurd answers
+checks (Some (Check format file cert)) (Some w) new before now status (replied (Valued x) answers is left) = λ _. absurd answers
+checks (Some (Check format file cert)) (Some w) new before now status (replied (Generated x) answers is left) = λ _. absurd answers
+checks (Some (Check format file cert)) (Some w) new before now status (replied (Refused (Order r)) answers is left) = λ _. absurd answers
+checks (Some (Check format file cert)) (Some w) new before now status (replied (Refused Words) answers is left) = λ _. absurd answers
+checks (Some (Check format file cert)) (Some w) new before now status (replied (Refused LongCertificate) answers is left) = λ ends. absurd (not_solved status (omega arith) (omega arith) ends)
+checks (Some (Check format file cert)) (Some w) new before now status (replied (Refused (Input r)) answers is left) = λ ends. absurd (not_solved status (omega arith) (omega arith) ends)
+checks (Some (Check format file cert)) (Some w) new before now status (cut_off reply n is fault answers left) = λ ends. absurd (not_solved status (omega arith) (omega arith) ends)
+checks (Some (Check format file cert)) (Some w) new before now status (faulted is fault leaves) = λ ends. absurd (not_solved status (omega arith) (omega arith) ends)
+checks (Some (Check format file cert)) (Some w) new before now status (lacked is leaves) = λ ends. absurd (not_solved status (omega arith) (omega arith) ends)
 
 pub values : (command : Option Command) (old new : Option World) (before now status : ℕ) → Ended command old new before now status → IfSome old (λ w. WeighsOrder command w old new status)
 values command None new before now status ended = tt
 values None (Some w) new before now status ended = tt
-values (Some (Solve file nodes cert)) (Some w) new before now status ended = tt
-values (Some (Check file cert)) (Some w) new before now status ended = tt
+values (Some (Solve format file nodes cert)) (Some w) new before now status ended = tt
+values (Some (Check format file cert)) (Some w) new before now status ended = tt
 values (Some (Gen seed n)) (Some w) new before now status ended = tt
-values (Some (Value file order_file)) (Some w) new before now status (replied (Valued x) answers is left) = λ _. record { weights = x.weights; value = x.value; weighed = answers; status_is = is; text = left }
-values (Some (Value file order_file)) (Some w) new before now status (replied (Solved x) answers is left) = λ _. absurd answers
-values (Some (Value file order_file)) (Some w) new before now status (replied (Generated x) answers is left) = λ _. absurd answers
-values (Some (Value file order_file)) (Some w) new before now status (replied (Checked x) answers is left) = λ _. absurd answers
-values (Some (Value file order_file)) (Some w) new before now status (replied (Refused Words) answers is left) = λ _. absurd answers
-values (Some (Value file order_file)) (Some w) new before now status (replied (Refused LongCertificate) answers is left) = λ _. absurd answers
-values (Some (Value file order_file)) (Some w) new before now status (replied (Refused (Input r)) answers is left) = λ ends. absurd (not_solved status (omega arith) (omega arith) ends)
-values (Some (Value file order_file)) (Some w) new before now status (replied (Refused (Order r)) answers is left) = λ ends. absurd (not_solved status (omega arith) (omega arith) ends)
-values (Some (Value file order_file)) (Some w) new before now status (cut_off reply n is fault answers left) = λ ends. absurd (not_solved status (omega arith) (omega arith) ends)
-values (Some (Value file order_file)) (Some w) new before now status (faulted is fault leaves) = λ ends. absurd (not_solved status (omega arith) (omega arith) ends)
-values (Some (Value file order_file)) (Some w) new before now status (lacked is leaves) = λ ends. absurd (not_solved status (omega arith) (omega arith) ends)
+values (Some (Value format file order_file)) (Some w) new before now status (replied (Valued x) answers is left) = λ _. record { input = x.input; value = x.value; weighed = answers; status_is = is; text = left }
+values (Some (Value format file order_file)) (Some w) new before now status (replied (Solved x) answers is left) = λ _. absurd answers
+values (Some (Value format file order_file)) (Some w) new before now status (replied (Generated x) answers is left) = λ _. absurd answers
+values (Some (Value format file order_file)) (Some w) new before now status (replied (Checked x) answers is left) = λ _. absurd answers
+values (Some (Value format file order_file)) (Some w) new before now status (replied (Refused Words) answers is left) = λ _. absurd answers
+values (Some (Value format file order_file)) (Some w) new before now status (replied (Refused LongCertificate) answers is left) = λ _. absurd answers
+values (Some (Value format file order_file)) (Some w) new before now status (replied (Refused (Input r)) answers is left) = λ ends. absurd (not_solved status (omega arith) (omega arith) ends)
+values (Some (Value format file order_file)) (Some w) new before now status (replied (Refused (Order r)) answers is left) = λ ends. absurd (not_solved status (omega arith) (omega arith) ends)
+values (Some (Value format file order_file)) (Some w) new before now status (cut_off reply n is fault answers left) = λ ends. absurd (not_solved status (omega arith) (omega arith) ends)
+values (Some (Value format file order_file)) (Some w) new before now status (faulted is fault leaves) = λ ends. absurd (not_solved status (omega arith) (omega arith) ends)
+values (Some (Value format file order_file)) (Some w) new before now status (lacked is leaves) = λ ends. absurd (not_solved status (omega arith) (omega arith) ends)
 
 pub generates : (command : Option Command) (old new : Option World) (before now status : ℕ) → Ended command old new before now status → IfSome old (λ w. GeneratesWeights command old new status)
 generates command None new before now status ended = tt
 generates None (Some w) new before now status ended = tt
-generates (Some (Solve file nodes cert)) (Some w) new before now status ended = tt
-generates (Some (Check file cert)) (Some w) new before now status ended = tt
-generates (Some (Value file order_file)) (Some w) new before now status ended = tt
+generates (Some (Solve format file nodes cert)) (Some w) new before now status ended = tt
+generates (Some (Check format file cert)) (Some w) new before now status ended = tt
+generates (Some (Value format file order_file)) (Some w) new before now status ended = tt
 generates (Some (Gen seed n)) (Some w) new before now status (replied (Generated x) answers is left) = λ _. record { generated = x; is_generated = answers; status_is = is; text = left ∙ ap (λ (k : ℕ). with_printed (generation_text k x.core) (settled (Some w))) answers.seed_is }
 generates (Some (Gen seed n)) (Some w) new before now status (replied (Solved x) answers is left) = λ _. absurd answers
 generates (Some (Gen seed n)) (Some w) new before now status (replied (Checked x) answers is left) = λ _. absurd answers
@@ -158,7 +159,7 @@ generates (Some (Gen seed n)) (Some w) new before now status (faulted is fault l
 generates (Some (Gen seed n)) (Some w) new before now status (lacked is leaves) = λ ends. absurd (not_solved status (omega arith) (omega arith) ends)
 
 pub usage_line : (command : Option Command) (old new : Option World) (before now status : ℕ) → Ended command old new before now status → status ≡ 2 → PrintsOnly old new (refusal_line Words)
-usage_line command old new before now status (replied (Solved x) answers is left) two = absurd (solved_not (is_optimal x.state.best (state_bound x.state)) status 2 is (omega arith) (omega arith) two)
+usage_line command old new before now status (replied (Solved x) answers is left) two = absurd (solved_not (is_optimal x.core.state.best (state_bound x.core.state)) status 2 is (omega arith) (omega arith) two)
 usage_line command old new before now status (replied (Checked x) answers is left) two = absurd (outcome_not x.outcome status 2 is (omega arith) (omega arith) two)
 usage_line command old new before now status (replied (Refused Words) answers is left) two = left
 usage_line command old new before now status (replied (Refused LongCertificate) answers is left) two = absurd (omega arith)
@@ -170,25 +171,25 @@ usage_line command old new before now status (cut_off reply n is fault answers l
 usage_line command old new before now status (faulted is fault leaves) two = absurd (omega arith)
 usage_line command old new before now status (lacked is leaves) two = absurd (omega arith)
 
-solve_not_one : (file : List ℕ) (nodes : ℕ) (cert : Option (List ℕ)) (w : World) (reply : Reply) (status : ℕ) → Answers (Some (Solve file nodes cert)) (Some w) reply → status ≡ reply_status reply → status ≡ 1 → ⊥
-solve_not_one file nodes cert w (Solved x) status answers is one = solved_not (is_optimal x.state.best (state_bound x.state)) status 1 is (omega arith) (omega arith) one
-solve_not_one file nodes cert w (Checked x) status answers is one = answers
-solve_not_one file nodes cert w (Refused Words) status answers is one = answers
-solve_not_one file nodes cert w (Refused LongCertificate) status answers is one = answers
-solve_not_one file nodes cert w (Refused (Input r)) status answers is one = omega arith
-solve_not_one file nodes cert w (Refused (Order r)) status answers is one = answers
-solve_not_one file nodes cert w (Valued x) status answers is one = answers
-solve_not_one file nodes cert w (Generated x) status answers is one = answers
+solve_not_one : (format : Format) (file : List ℕ) (nodes : ℕ) (cert : Option (List ℕ)) (w : World) (reply : Reply) (status : ℕ) → Answers (Some (Solve format file nodes cert)) (Some w) reply → status ≡ reply_status reply → status ≡ 1 → ⊥
+solve_not_one format file nodes cert w (Solved x) status answers is one = solved_not (is_optimal x.core.state.best (state_bound x.core.state)) status 1 is (omega arith) (omega arith) one
+solve_not_one format file nodes cert w (Checked x) status answers is one = answers
+solve_not_one format file nodes cert w (Refused Words) status answers is one = answers
+solve_not_one format file nodes cert w (Refused LongCertificate) status answers is one = answers
+solve_not_one format file nodes cert w (Refused (Input r)) status answers is one = omega arith
+solve_not_one format file nodes cert w (Refused (Order r)) status answers is one = answers
+solve_not_one format file nodes cert w (Valued x) status answers is one = answers
+solve_not_one format file nodes cert w (Generated x) status answers is one = answers
 
-value_not_one : (file order_file : List ℕ) (w : World) (reply : Reply) (status : ℕ) → Answers (Some (Value file order_file)) (Some w) reply → status ≡ reply_status reply → status ≡ 1 → ⊥
-value_not_one file order_file w (Valued x) status answers is one = omega arith
-value_not_one file order_file w (Solved x) status answers is one = answers
-value_not_one file order_file w (Generated x) status answers is one = answers
-value_not_one file order_file w (Checked x) status answers is one = answers
-value_not_one file order_file w (Refused Words) status answers is one = answers
-value_not_one file order_file w (Refused LongCertificate) status answers is one = answers
-value_not_one file order_file w (Refused (Input r)) status answers is one = omega arith
-value_not_one file order_file w (Refused (Order r)) status answers is one = omega arith
+value_not_one : (format : Format) (file order_file : List ℕ) (w : World) (reply : Reply) (status : ℕ) → Answers (Some (Value format file order_file)) (Some w) reply → status ≡ reply_status reply → status ≡ 1 → ⊥
+value_not_one format file order_file w (Valued x) status answers is one = omega arith
+value_not_one format file order_file w (Solved x) status answers is one = answers
+value_not_one format file order_file w (Generated x) status answers is one = answers
+value_not_one format file order_file w (Checked x) status answers is one = answers
+value_not_one format file order_file w (Refused Words) status answers is one = answers
+value_not_one format file order_file w (Refused LongCertificate) status answers is one = answers
+value_not_one format file order_file w (Refused (Input r)) status answers is one = omega arith
+value_not_one format file order_file w (Refused (Order r)) status answers is one = omega arith
 
 gen_not_one : (seed n : ℕ) (w : World) (reply : Reply) (status : ℕ) → Answers (Some (Gen seed n)) (Some w) reply → status ≡ reply_status reply → status ≡ 1 → ⊥
 gen_not_one seed n w (Generated x) status answers is one = solved_not (is_optimal x.core.state.best (state_bound x.core.state)) status 1 is (omega arith) (omega arith) one
@@ -206,17 +207,17 @@ rejection_line command (Some w) new before now status (cut_off reply n is fault 
 rejection_line command (Some w) new before now status (faulted is fault leaves) = λ one. absurd (omega arith)
 rejection_line command (Some w) new before now status (lacked is leaves) = λ one. absurd (omega arith)
 rejection_line None (Some w) new before now status (replied reply answers is left) = λ one. absurd (words_not_one reply status answers is one)
-rejection_line (Some (Solve file nodes cert)) (Some w) new before now status (replied reply answers is left) = λ one. absurd (solve_not_one file nodes cert w reply status answers is one)
+rejection_line (Some (Solve format file nodes cert)) (Some w) new before now status (replied reply answers is left) = λ one. absurd (solve_not_one format file nodes cert w reply status answers is one)
 rejection_line (Some (Gen seed n)) (Some w) new before now status (replied reply answers is left) = λ one. absurd (gen_not_one seed n w reply status answers is one)
-rejection_line (Some (Value file order_file)) (Some w) new before now status (replied reply answers is left) = λ one. absurd (value_not_one file order_file w reply status answers is one)
-rejection_line (Some (Check file cert)) (Some w) new before now status (replied (Checked x) answers is left) = rejects_by file cert w (Some w) new status x.weights x.outcome answers.1 is left
-rejection_line (Some (Check file cert)) (Some w) new before now status (replied (Solved x) answers is left) = λ one. absurd answers
-rejection_line (Some (Check file cert)) (Some w) new before now status (replied (Valued x) answers is left) = λ one. absurd answers
-rejection_line (Some (Check file cert)) (Some w) new before now status (replied (Generated x) answers is left) = λ one. absurd answers
-rejection_line (Some (Check file cert)) (Some w) new before now status (replied (Refused (Order r)) answers is left) = λ one. absurd answers
-rejection_line (Some (Check file cert)) (Some w) new before now status (replied (Refused Words) answers is left) = λ one. absurd answers
-rejection_line (Some (Check file cert)) (Some w) new before now status (replied (Refused LongCertificate) answers is left) = λ one. absurd (omega arith)
-rejection_line (Some (Check file cert)) (Some w) new before now status (replied (Refused (Input r)) answers is left) = λ one. absurd (omega arith)
+rejection_line (Some (Value format file order_file)) (Some w) new before now status (replied reply answers is left) = λ one. absurd (value_not_one format file order_file w reply status answers is one)
+rejection_line (Some (Check format file cert)) (Some w) new before now status (replied (Checked x) answers is left) = rejects_by format file cert w (Some w) new status x.input x.outcome answers.1 is left
+rejection_line (Some (Check format file cert)) (Some w) new before now status (replied (Solved x) answers is left) = λ one. absurd answers
+rejection_line (Some (Check format file cert)) (Some w) new before now status (replied (Valued x) answers is left) = λ one. absurd answers
+rejection_line (Some (Check format file cert)) (Some w) new before now status (replied (Generated x) answers is left) = λ one. absurd answers
+rejection_line (Some (Check format file cert)) (Some w) new before now status (replied (Refused (Order r)) answers is left) = λ one. absurd answers
+rejection_line (Some (Check format file cert)) (Some w) new before now status (replied (Refused Words) answers is left) = λ one. absurd answers
+rejection_line (Some (Check format file cert)) (Some w) new before now status (replied (Refused LongCertificate) answers is left) = λ one. absurd (omega arith)
+rejection_line (Some (Check format file cert)) (Some w) new before now status (replied (Refused (Input r)) answers is left) = λ one. absurd (omega arith)
 
 -- a reply, or one of the two other ends
 reply_or : (command : Option Command) (old new : Option World) (before now status : ℕ) → Ended command old new before now status → ((reply : Reply) × Answers command old reply × (status ≡ reply_status reply)) ⊎ (status ≡ 5) ⊎ ((status ≡ 4) × Faulted command old before now)
@@ -226,16 +227,16 @@ reply_or command old new before now status (faulted is fault leaves) = inr (inr 
 reply_or command old new before now status (lacked is leaves) = inr (inl is)
 
 -- the certificate is rejected, so no reply has another status
-rejected_reply : (file cert : List ℕ) (w : World) (reply : Reply) (line : ℕ) (reason : Reason) → Answers (Some (Check file cert)) (Some w) reply → IsRejection file cert w line reason → reply_status reply ≡ 1
-rejected_reply file cert w (Checked x) line reason answers r = rejected_status x.outcome line reason (same_answer file cert w x.weights r.weights (answer_of x.outcome) (rejected line reason) answers.1 r.checked)
-rejected_reply file cert w (Solved x) line reason answers r = absurd answers
-rejected_reply file cert w (Valued x) line reason answers r = absurd answers
-rejected_reply file cert w (Generated x) line reason answers r = absurd answers
-rejected_reply file cert w (Refused (Order e)) line reason answers r = absurd answers
-rejected_reply file cert w (Refused Words) line reason answers r = absurd answers
-rejected_reply file cert w (Refused LongCertificate) line reason answers r =
-    let same : too_long ≡ rejected line reason = same_answer file cert w answers.0 r.weights too_long (rejected line reason) answers.1 r.checked in absurd cc
-rejected_reply file cert w (Refused (Input e)) line reason answers r = absurd (cc (answers, r.checked.accepted_file))
+rejected_reply : (format : Format) (file cert : List ℕ) (w : World) (reply : Reply) (line : ℕ) (reason : Reason) → Answers (Some (Check format file cert)) (Some w) reply → IsRejection format file cert w line reason → reply_status reply ≡ 1
+rejected_reply format file cert w (Checked x) line reason answers r = rejected_status x.outcome line reason (same_answer format file cert w x.input r.input (answer_of x.outcome) (rejected line reason) answers.1 r.checked)
+rejected_reply format file cert w (Solved x) line reason answers r = absurd answers
+rejected_reply format file cert w (Valued x) line reason answers r = absurd answers
+rejected_reply format file cert w (Generated x) line reason answers r = absurd answers
+rejected_reply format file cert w (Refused (Order e)) line reason answers r = absurd answers
+rejected_reply format file cert w (Refused Words) line reason answers r = absurd answers
+rejected_reply format file cert w (Refused LongCertificate) line reason answers r =
+    let same : too_long ≡ rejected line reason = same_answer format file cert w answers.0 r.input too_long (rejected line reason) answers.1 r.checked in absurd cc
+rejected_reply format file cert w (Refused (Input e)) line reason answers r = absurd (cc (answers, r.checked.accepted_file))
 
 pub rejects : (command : Option Command) (old new : Option World) (before now status : ℕ) → Ended command old new before now status → IfSome old (λ w. ExactlyWhere status 1 (IsRejected command w) (Faulted command old before now))
 rejects command None new before now status ended = tt
@@ -248,23 +249,23 @@ rejects command (Some w) new before now status ended = record {
         → (status ≡ 1) ⊎ (status ≡ 5) ⊎ ((status ≡ 4) × Faulted c (Some w) before now)
     always c (inr other) rejection = inr other
     always None (inl r) rejection = absurd rejection.2
-    always (Some (Solve file nodes cert)) (inl r) rejection = absurd rejection.2
-    always (Some (Value file order_file)) (inl r) rejection = absurd rejection.2
+    always (Some (Solve format file nodes cert)) (inl r) rejection = absurd rejection.2
+    always (Some (Value format file order_file)) (inl r) rejection = absurd rejection.2
     always (Some (Gen seed n)) (inl r) rejection = absurd rejection.2
-    always (Some (Check file cert)) (inl r) rejection = inl (r.2 ∙ rejected_reply file cert w r.0 rejection.0 rejection.1 r.1 rejection.2)
+    always (Some (Check format file cert)) (inl r) rejection = inl (r.2 ∙ rejected_reply format file cert w r.0 rejection.0 rejection.1 r.1 rejection.2)
 
 -- a command has no reply with status 2
 command_not_two : (command : Command) (old : Option World) (reply : Reply) (status : ℕ) → Answers (Some command) old reply → status ≡ reply_status reply → status ≡ 2 → ⊥
-command_not_two command old (Solved x) status answers is two = solved_not (is_optimal x.state.best (state_bound x.state)) status 2 is (omega arith) (omega arith) two
+command_not_two command old (Solved x) status answers is two = solved_not (is_optimal x.core.state.best (state_bound x.core.state)) status 2 is (omega arith) (omega arith) two
 command_not_two command old (Generated x) status answers is two = solved_not (is_optimal x.core.state.best (state_bound x.core.state)) status 2 is (omega arith) (omega arith) two
 command_not_two command old (Checked x) status answers is two = outcome_not x.outcome status 2 is (omega arith) (omega arith) two
 command_not_two command old (Valued x) status answers is two = omega arith
 command_not_two command old (Refused LongCertificate) status answers is two = omega arith
 command_not_two command old (Refused (Input r)) status answers is two = omega arith
 command_not_two command old (Refused (Order r)) status answers is two = omega arith
-command_not_two (Solve file nodes cert) old (Refused Words) status answers is two = answers
-command_not_two (Check file cert) old (Refused Words) status answers is two = answers
-command_not_two (Value file order_file) old (Refused Words) status answers is two = answers
+command_not_two (Solve format file nodes cert) old (Refused Words) status answers is two = answers
+command_not_two (Check format file cert) old (Refused Words) status answers is two = answers
+command_not_two (Value format file order_file) old (Refused Words) status answers is two = answers
 command_not_two (Gen seed n) old (Refused Words) status answers is two = answers
 
 two_only : (command : Option Command) (old new : Option World) (before now status : ℕ) → Ended command old new before now status → status ≡ 2 → command ≡ None
@@ -292,30 +293,30 @@ refusal_line_of command (Some w) new before now status (cut_off reply n is fault
 refusal_line_of command (Some w) new before now status (faulted is fault leaves) = λ three. absurd (omega arith)
 refusal_line_of command (Some w) new before now status (lacked is leaves) = λ three. absurd (omega arith)
 refusal_line_of None (Some w) new before now status (replied reply answers is left) = λ three. let two : status ≡ 2 = is ∙ ap reply_status answers in absurd (omega arith)
-refusal_line_of (Some (Solve file nodes cert)) (Some w) new before now status (replied (Solved x) answers is left) = λ three. absurd (solved_not (is_optimal x.state.best (state_bound x.state)) status 3 is (omega arith) (omega arith) three)
-refusal_line_of (Some (Solve file nodes cert)) (Some w) new before now status (replied (Checked x) answers is left) = λ three. absurd answers
-refusal_line_of (Some (Solve file nodes cert)) (Some w) new before now status (replied (Valued x) answers is left) = λ three. absurd answers
-refusal_line_of (Some (Solve file nodes cert)) (Some w) new before now status (replied (Generated x) answers is left) = λ three. absurd answers
-refusal_line_of (Some (Solve file nodes cert)) (Some w) new before now status (replied (Refused (Order r)) answers is left) = λ three. absurd answers
-refusal_line_of (Some (Solve file nodes cert)) (Some w) new before now status (replied (Refused Words) answers is left) = λ three. absurd answers
-refusal_line_of (Some (Solve file nodes cert)) (Some w) new before now status (replied (Refused LongCertificate) answers is left) = λ three. absurd answers
-refusal_line_of (Some (Solve file nodes cert)) (Some w) new before now status (replied (Refused (Input r)) answers is left) = λ three. (Input r, answers, left)
-refusal_line_of (Some (Check file cert)) (Some w) new before now status (replied (Solved x) answers is left) = λ three. absurd answers
-refusal_line_of (Some (Check file cert)) (Some w) new before now status (replied (Valued x) answers is left) = λ three. absurd answers
-refusal_line_of (Some (Check file cert)) (Some w) new before now status (replied (Generated x) answers is left) = λ three. absurd answers
-refusal_line_of (Some (Check file cert)) (Some w) new before now status (replied (Refused (Order r)) answers is left) = λ three. absurd answers
-refusal_line_of (Some (Value file order_file)) (Some w) new before now status (replied (Valued x) answers is left) = λ three. absurd (omega arith)
-refusal_line_of (Some (Value file order_file)) (Some w) new before now status (replied (Solved x) answers is left) = λ three. absurd answers
-refusal_line_of (Some (Value file order_file)) (Some w) new before now status (replied (Generated x) answers is left) = λ three. absurd answers
-refusal_line_of (Some (Value file order_file)) (Some w) new before now status (replied (Checked x) answers is left) = λ three. absurd answers
-refusal_line_of (Some (Value file order_file)) (Some w) new before now status (replied (Refused Words) answers is left) = λ three. absurd answers
-refusal_line_of (Some (Value file order_file)) (Some w) new before now status (replied (Refused LongCertificate) answers is left) = λ three. absurd answers
-refusal_line_of (Some (Value file order_file)) (Some w) new before now status (replied (Refused (Input r)) answers is left) = λ three. (Input r, answers, left)
-refusal_line_of (Some (Value file order_file)) (Some w) new before now status (replied (Refused (Order r)) answers is left) = λ three. (Order r, answers, left)
-refusal_line_of (Some (Check file cert)) (Some w) new before now status (replied (Checked x) answers is left) = λ three. absurd (outcome_not x.outcome status 3 is (omega arith) (omega arith) three)
-refusal_line_of (Some (Check file cert)) (Some w) new before now status (replied (Refused Words) answers is left) = λ three. absurd answers
-refusal_line_of (Some (Check file cert)) (Some w) new before now status (replied (Refused LongCertificate) answers is left) = λ three. (LongCertificate, answers, left)
-refusal_line_of (Some (Check file cert)) (Some w) new before now status (replied (Refused (Input r)) answers is left) = λ three. (Input r, answers, left)
+refusal_line_of (Some (Solve format file nodes cert)) (Some w) new before now status (replied (Solved x) answers is left) = λ three. absurd (solved_not (is_optimal x.core.state.best (state_bound x.core.state)) status 3 is (omega arith) (omega arith) three)
+refusal_line_of (Some (Solve format file nodes cert)) (Some w) new before now status (replied (Checked x) answers is left) = λ three. absurd answers
+refusal_line_of (Some (Solve format file nodes cert)) (Some w) new before now status (replied (Valued x) answers is left) = λ three. absurd answers
+refusal_line_of (Some (Solve format file nodes cert)) (Some w) new before now status (replied (Generated x) answers is left) = λ three. absurd answers
+refusal_line_of (Some (Solve format file nodes cert)) (Some w) new before now status (replied (Refused (Order r)) answers is left) = λ three. absurd answers
+refusal_line_of (Some (Solve format file nodes cert)) (Some w) new before now status (replied (Refused Words) answers is left) = λ three. absurd answers
+refusal_line_of (Some (Solve format file nodes cert)) (Some w) new before now status (replied (Refused LongCertificate) answers is left) = λ three. absurd answers
+refusal_line_of (Some (Solve format file nodes cert)) (Some w) new before now status (replied (Refused (Input r)) answers is left) = λ three. (Input r, answers, left)
+refusal_line_of (Some (Check format file cert)) (Some w) new before now status (replied (Solved x) answers is left) = λ three. absurd answers
+refusal_line_of (Some (Check format file cert)) (Some w) new before now status (replied (Valued x) answers is left) = λ three. absurd answers
+refusal_line_of (Some (Check format file cert)) (Some w) new before now status (replied (Generated x) answers is left) = λ three. absurd answers
+refusal_line_of (Some (Check format file cert)) (Some w) new before now status (replied (Refused (Order r)) answers is left) = λ three. absurd answers
+refusal_line_of (Some (Value format file order_file)) (Some w) new before now status (replied (Valued x) answers is left) = λ three. absurd (omega arith)
+refusal_line_of (Some (Value format file order_file)) (Some w) new before now status (replied (Solved x) answers is left) = λ three. absurd answers
+refusal_line_of (Some (Value format file order_file)) (Some w) new before now status (replied (Generated x) answers is left) = λ three. absurd answers
+refusal_line_of (Some (Value format file order_file)) (Some w) new before now status (replied (Checked x) answers is left) = λ three. absurd answers
+refusal_line_of (Some (Value format file order_file)) (Some w) new before now status (replied (Refused Words) answers is left) = λ three. absurd answers
+refusal_line_of (Some (Value format file order_file)) (Some w) new before now status (replied (Refused LongCertificate) answers is left) = λ three. absurd answers
+refusal_line_of (Some (Value format file order_file)) (Some w) new before now status (replied (Refused (Input r)) answers is left) = λ three. (Input r, answers, left)
+refusal_line_of (Some (Value format file order_file)) (Some w) new before now status (replied (Refused (Order r)) answers is left) = λ three. (Order r, answers, left)
+refusal_line_of (Some (Check format file cert)) (Some w) new before now status (replied (Checked x) answers is left) = λ three. absurd (outcome_not x.outcome status 3 is (omega arith) (omega arith) three)
+refusal_line_of (Some (Check format file cert)) (Some w) new before now status (replied (Refused Words) answers is left) = λ three. absurd answers
+refusal_line_of (Some (Check format file cert)) (Some w) new before now status (replied (Refused LongCertificate) answers is left) = λ three. (LongCertificate, answers, left)
+refusal_line_of (Some (Check format file cert)) (Some w) new before now status (replied (Refused (Input r)) answers is left) = λ three. (Input r, answers, left)
 refusal_line_of (Some (Gen seed n)) (Some w) new before now status (replied (Generated x) answers is left) = λ three. absurd (solved_not (is_optimal x.core.state.best (state_bound x.core.state)) status 3 is (omega arith) (omega arith) three)
 refusal_line_of (Some (Gen seed n)) (Some w) new before now status (replied (Valued x) answers is left) = λ three. absurd answers
 refusal_line_of (Some (Gen seed n)) (Some w) new before now status (replied (Solved x) answers is left) = λ three. absurd answers
@@ -323,73 +324,73 @@ refusal_line_of (Some (Gen seed n)) (Some w) new before now status (replied (Che
 refusal_line_of (Some (Gen seed n)) (Some w) new before now status (replied (Refused r) answers is left) = λ three. absurd answers
 
 -- the input is refused, so no reply has another status
-refused_input : (command : Command) (w : World) (reply : Reply) (e : InputRefusal) → Answers (Some command) (Some w) reply → input_at (input_file command) w.files ≡ Some (Err e) → reply_status reply ≡ 3
-refused_input (Solve file nodes cert) w (Solved x) e answers is = absurd (cc (answers.1, is))
-refused_input (Solve file nodes cert) w (Checked x) e answers is = absurd answers
-refused_input (Solve file nodes cert) w (Refused Words) e answers is = absurd answers
-refused_input (Solve file nodes cert) w (Refused LongCertificate) e answers is = absurd answers
-refused_input (Solve file nodes cert) w (Refused (Input r)) e answers is = refl
-refused_input (Solve file nodes cert) w (Valued x) e answers is = absurd answers
-refused_input (Solve file nodes cert) w (Generated x) e answers is = absurd answers
-refused_input (Solve file nodes cert) w (Refused (Order r)) e answers is = absurd answers
-refused_input (Check file cert) w (Solved x) e answers is = absurd answers
-refused_input (Check file cert) w (Valued x) e answers is = absurd answers
-refused_input (Check file cert) w (Generated x) e answers is = absurd answers
-refused_input (Check file cert) w (Refused (Order r)) e answers is = absurd answers
-refused_input (Value file order_file) w (Valued x) e answers is = absurd (cc (answers.accepted_file, is))
-refused_input (Value file order_file) w (Solved x) e answers is = absurd answers
-refused_input (Value file order_file) w (Generated x) e answers is = absurd answers
-refused_input (Value file order_file) w (Checked x) e answers is = absurd answers
-refused_input (Value file order_file) w (Refused Words) e answers is = absurd answers
-refused_input (Value file order_file) w (Refused LongCertificate) e answers is = absurd answers
-refused_input (Value file order_file) w (Refused (Input r)) e answers is = refl
-refused_input (Value file order_file) w (Refused (Order r)) e answers is = refl
+refused_input : (command : Command) (w : World) (reply : Reply) (e : InputRefusal) → Answers (Some command) (Some w) reply → command_input command w.files ≡ Some (Err e) → reply_status reply ≡ 3
+refused_input (Solve format file nodes cert) w (Solved x) e answers is = absurd (cc (answers.1, is))
+refused_input (Solve format file nodes cert) w (Checked x) e answers is = absurd answers
+refused_input (Solve format file nodes cert) w (Refused Words) e answers is = absurd answers
+refused_input (Solve format file nodes cert) w (Refused LongCertificate) e answers is = absurd answers
+refused_input (Solve format file nodes cert) w (Refused (Input r)) e answers is = refl
+refused_input (Solve format file nodes cert) w (Valued x) e answers is = absurd answers
+refused_input (Solve format file nodes cert) w (Generated x) e answers is = absurd answers
+refused_input (Solve format file nodes cert) w (Refused (Order r)) e answers is = absurd answers
+refused_input (Check format file cert) w (Solved x) e answers is = absurd answers
+refused_input (Check format file cert) w (Valued x) e answers is = absurd answers
+refused_input (Check format file cert) w (Generated x) e answers is = absurd answers
+refused_input (Check format file cert) w (Refused (Order r)) e answers is = absurd answers
+refused_input (Value format file order_file) w (Valued x) e answers is = absurd (cc (answers.accepted_file, is))
+refused_input (Value format file order_file) w (Solved x) e answers is = absurd answers
+refused_input (Value format file order_file) w (Generated x) e answers is = absurd answers
+refused_input (Value format file order_file) w (Checked x) e answers is = absurd answers
+refused_input (Value format file order_file) w (Refused Words) e answers is = absurd answers
+refused_input (Value format file order_file) w (Refused LongCertificate) e answers is = absurd answers
+refused_input (Value format file order_file) w (Refused (Input r)) e answers is = refl
+refused_input (Value format file order_file) w (Refused (Order r)) e answers is = refl
 refused_input (Gen seed n) w reply e answers is = absurd cc
-refused_input (Check file cert) w (Checked x) e answers is = absurd (cc (answers.1.accepted_file, is))
-refused_input (Check file cert) w (Refused Words) e answers is = absurd answers
-refused_input (Check file cert) w (Refused LongCertificate) e answers is = refl
-refused_input (Check file cert) w (Refused (Input r)) e answers is = refl
+refused_input (Check format file cert) w (Checked x) e answers is = absurd (cc (answers.1.accepted_file, is))
+refused_input (Check format file cert) w (Refused Words) e answers is = absurd answers
+refused_input (Check format file cert) w (Refused LongCertificate) e answers is = refl
+refused_input (Check format file cert) w (Refused (Input r)) e answers is = refl
 
 -- the certificate is too long, so no reply has another status
-long_reply : (file cert : List ℕ) (w : World) (reply : Reply) (C : Matrix) → Answers (Some (Check file cert)) (Some w) reply → IsChecked file cert w C too_long → reply_status reply ≡ 3
-long_reply file cert w (Checked x) C answers checked = absurd (not_long x.outcome (same_answer file cert w x.weights C (answer_of x.outcome) too_long answers.1 checked))
-long_reply file cert w (Solved x) C answers checked = absurd answers
-long_reply file cert w (Valued x) C answers checked = absurd answers
-long_reply file cert w (Generated x) C answers checked = absurd answers
-long_reply file cert w (Refused (Order r)) C answers checked = absurd answers
-long_reply file cert w (Refused Words) C answers checked = absurd answers
-long_reply file cert w (Refused LongCertificate) C answers checked = refl
-long_reply file cert w (Refused (Input e)) C answers checked = refl
+long_reply : (format : Format) (file cert : List ℕ) (w : World) (reply : Reply) (C : Instance) → Answers (Some (Check format file cert)) (Some w) reply → IsChecked format file cert w C too_long → reply_status reply ≡ 3
+long_reply format file cert w (Checked x) C answers checked = absurd (not_long x.outcome (same_answer format file cert w x.input C (answer_of x.outcome) too_long answers.1 checked))
+long_reply format file cert w (Solved x) C answers checked = absurd answers
+long_reply format file cert w (Valued x) C answers checked = absurd answers
+long_reply format file cert w (Generated x) C answers checked = absurd answers
+long_reply format file cert w (Refused (Order r)) C answers checked = absurd answers
+long_reply format file cert w (Refused Words) C answers checked = absurd answers
+long_reply format file cert w (Refused LongCertificate) C answers checked = refl
+long_reply format file cert w (Refused (Input e)) C answers checked = refl
 
 -- what is known of the order is known for sure
-same_order : (file order_file : List ℕ) (w : World) (C : Matrix) (value : ℤ) (e : OrderFileRefusal) → IsWeighedOrder file order_file w C value → IsRefusedOrder file order_file w e → ⊥
-same_order file order_file w C value e weighed refused =
-    let same : C ≡ refused.weights = cc (weighed.accepted_file, refused.accepted_file) in
-    let read : order_named refused.weights.size w.files order_file ≡ Some (Ok weighed.order) = ap (λ (x : Matrix). order_named x.size w.files order_file) (sym same) ∙ weighed.accepted_order in
+same_order : (format : Format) (file order_file : List ℕ) (w : World) (C : Instance) (value : ℤ) (e : OrderFileRefusal) → IsWeighedOrder format file order_file w C value → IsRefusedOrder format file order_file w e → ⊥
+same_order format file order_file w C value e weighed refused =
+    let same : C ≡ refused.input = cc (weighed.accepted_file, refused.accepted_file) in
+    let read : order_named refused.input.weights.size w.files order_file ≡ Some (Ok weighed.order) = ap (λ (x : Instance). order_named x.weights.size w.files order_file) (sym same) ∙ weighed.accepted_order in
     cc (read, refused.refused_order)
 
 -- the order is refused, so no reply has another status
-order_reply : (file order_file : List ℕ) (w : World) (reply : Reply) (e : OrderFileRefusal) → Answers (Some (Value file order_file)) (Some w) reply → IsRefusedOrder file order_file w e → reply_status reply ≡ 3
-order_reply file order_file w (Valued x) e answers refused = absurd (same_order file order_file w x.weights x.value e answers refused)
-order_reply file order_file w (Solved x) e answers refused = absurd answers
-order_reply file order_file w (Generated x) e answers refused = absurd answers
-order_reply file order_file w (Checked x) e answers refused = absurd answers
-order_reply file order_file w (Refused Words) e answers refused = absurd answers
-order_reply file order_file w (Refused LongCertificate) e answers refused = absurd answers
-order_reply file order_file w (Refused (Input r)) e answers refused = refl
-order_reply file order_file w (Refused (Order r)) e answers refused = refl
+order_reply : (format : Format) (file order_file : List ℕ) (w : World) (reply : Reply) (e : OrderFileRefusal) → Answers (Some (Value format file order_file)) (Some w) reply → IsRefusedOrder format file order_file w e → reply_status reply ≡ 3
+order_reply format file order_file w (Valued x) e answers refused = absurd (same_order format file order_file w x.input x.value e answers refused)
+order_reply format file order_file w (Solved x) e answers refused = absurd answers
+order_reply format file order_file w (Generated x) e answers refused = absurd answers
+order_reply format file order_file w (Checked x) e answers refused = absurd answers
+order_reply format file order_file w (Refused Words) e answers refused = absurd answers
+order_reply format file order_file w (Refused LongCertificate) e answers refused = absurd answers
+order_reply format file order_file w (Refused (Input r)) e answers refused = refl
+order_reply format file order_file w (Refused (Order r)) e answers refused = refl
 
 refused_reply : (command : Command) (w : World) (reply : Reply) (refusal : Refusal) → Answers (Some command) (Some w) reply → Refuses (Some command) w refusal → reply_status reply ≡ 3
 refused_reply command w reply Words answers refuses = absurd refuses
 refused_reply command w reply (Input e) answers refuses = refused_input command w reply e answers refuses
-refused_reply (Solve file nodes cert) w reply LongCertificate answers refuses = absurd refuses
-refused_reply (Value file order_file) w reply LongCertificate answers refuses = absurd refuses
+refused_reply (Solve format file nodes cert) w reply LongCertificate answers refuses = absurd refuses
+refused_reply (Value format file order_file) w reply LongCertificate answers refuses = absurd refuses
 refused_reply (Gen seed n) w reply LongCertificate answers refuses = absurd refuses
 refused_reply (Gen seed n) w reply (Order e) answers refuses = absurd refuses
-refused_reply (Solve file nodes cert) w reply (Order e) answers refuses = absurd refuses
-refused_reply (Check file cert) w reply (Order e) answers refuses = absurd refuses
-refused_reply (Value file order_file) w reply (Order e) answers refuses = order_reply file order_file w reply e answers refuses
-refused_reply (Check file cert) w reply LongCertificate answers refuses = long_reply file cert w reply refuses.0 answers refuses.1
+refused_reply (Solve format file nodes cert) w reply (Order e) answers refuses = absurd refuses
+refused_reply (Check format file cert) w reply (Order e) answers refuses = absurd refuses
+refused_reply (Value format file order_file) w reply (Order e) answers refuses = order_reply format file order_file w reply e answers refuses
+refused_reply (Check format file cert) w reply LongCertificate answers refuses = long_reply format file cert w reply refuses.0 answers refuses.1
 
 no_refusal : (w : World) (refusal : Refusal) → Refuses None w refusal → ⊥
 no_refusal w Words refuses = refuses
@@ -412,69 +413,69 @@ refuses_of command (Some w) new before now status ended = record {
 
 -- ---- no other end
 
-not_missing : (w : World) (name : List ℕ) (input : Result Matrix InputRefusal) → input_named w.files name ≡ Some input → IsMissing (Some w) name → ⊥
-not_missing w name input is missing = let none : input_named w.files name ≡ None = ap reading_of missing in cc
+not_missing : (format : Format) (w : World) (name : List ℕ) (input : Result Instance InputRefusal) → input_named format w.files name ≡ Some input → IsMissing (Some w) name → ⊥
+not_missing format w name input is missing = let none : input_named format w.files name ≡ None = ap (reading_of format) missing in cc
 
-solve_ends : (file : List ℕ) (nodes : ℕ) (cert : Option (List ℕ)) (w : World) (C : Matrix) (before now status : ℕ) → input_named w.files file ≡ Some (Ok C) → (Rose before now → ⊥)
-    → ((reply : Reply) × Answers (Some (Solve file nodes cert)) (Some w) reply × (status ≡ reply_status reply)) ⊎ (status ≡ 5) ⊎ ((status ≡ 4) × Faulted (Some (Solve file nodes cert)) (Some w) before now) → (status ≡ 0) ⊎ (status ≡ 6) ⊎ (status ≡ 5)
-solve_ends file nodes cert w C before now status input calm (inl (Solved x, answers, is)) = elim (solved_is (is_optimal x.state.best (state_bound x.state)) status is) [ inl zero_is ↦ inl zero_is | inr six ↦ inr (inl six) ]
-solve_ends file nodes cert w C before now status input calm (inl (Checked x, answers, is)) = absurd answers
-solve_ends file nodes cert w C before now status input calm (inl (Valued x, answers, is)) = absurd answers
-solve_ends file nodes cert w C before now status input calm (inl (Generated x, answers, is)) = absurd answers
-solve_ends file nodes cert w C before now status input calm (inl (Refused (Order e), answers, is)) = absurd answers
-solve_ends file nodes cert w C before now status input calm (inl (Refused Words, answers, is)) = absurd answers
-solve_ends file nodes cert w C before now status input calm (inl (Refused LongCertificate, answers, is)) = absurd answers
-solve_ends file nodes cert w C before now status input calm (inl (Refused (Input e), answers, is)) = absurd (cc (answers, input))
-solve_ends file nodes cert w C before now status input calm (inr (inl five)) = inr (inr five)
-solve_ends file nodes cert w C before now status input calm (inr (inr (four, inl (inl missing)))) = absurd (not_missing w file (Ok C) input missing)
-solve_ends file nodes cert w C before now status input calm (inr (inr (four, inl (inr none)))) = absurd none
-solve_ends file nodes cert w C before now status input calm (inr (inr (four, inr rose))) = absurd (calm rose)
+solve_ends : (format : Format) (file : List ℕ) (nodes : ℕ) (cert : Option (List ℕ)) (w : World) (C : Instance) (before now status : ℕ) → input_named format w.files file ≡ Some (Ok C) → (Rose before now → ⊥)
+    → ((reply : Reply) × Answers (Some (Solve format file nodes cert)) (Some w) reply × (status ≡ reply_status reply)) ⊎ (status ≡ 5) ⊎ ((status ≡ 4) × Faulted (Some (Solve format file nodes cert)) (Some w) before now) → (status ≡ 0) ⊎ (status ≡ 6) ⊎ (status ≡ 5)
+solve_ends format file nodes cert w C before now status input calm (inl (Solved x, answers, is)) = elim (solved_is (is_optimal x.core.state.best (state_bound x.core.state)) status is) [ inl zero_is ↦ inl zero_is | inr six ↦ inr (inl six) ]
+solve_ends format file nodes cert w C before now status input calm (inl (Checked x, answers, is)) = absurd answers
+solve_ends format file nodes cert w C before now status input calm (inl (Valued x, answers, is)) = absurd answers
+solve_ends format file nodes cert w C before now status input calm (inl (Generated x, answers, is)) = absurd answers
+solve_ends format file nodes cert w C before now status input calm (inl (Refused (Order e), answers, is)) = absurd answers
+solve_ends format file nodes cert w C before now status input calm (inl (Refused Words, answers, is)) = absurd answers
+solve_ends format file nodes cert w C before now status input calm (inl (Refused LongCertificate, answers, is)) = absurd answers
+solve_ends format file nodes cert w C before now status input calm (inl (Refused (Input e), answers, is)) = absurd (cc (answers, input))
+solve_ends format file nodes cert w C before now status input calm (inr (inl five)) = inr (inr five)
+solve_ends format file nodes cert w C before now status input calm (inr (inr (four, inl (inl missing)))) = absurd (not_missing format w file (Ok C) input missing)
+solve_ends format file nodes cert w C before now status input calm (inr (inr (four, inl (inr none)))) = absurd none
+solve_ends format file nodes cert w C before now status input calm (inr (inr (four, inr rose))) = absurd (calm rose)
 
 want_ends : (a : CheckAnswer) (status : ℕ) → status ≡ 5 → EndsBy a status
 want_ends (accepted value bound) status five = inr five
 want_ends (rejected line reason) status five = inr five
 want_ends too_long status five = inr five
 
-check_ends : (file cert : List ℕ) (w : World) (C : Matrix) (bytes : List ℕ) (before now status : ℕ) → input_named w.files file ≡ Some (Ok C) → file_named w.files cert ≡ Some bytes → (Rose before now → ⊥)
-    → ((reply : Reply) × Answers (Some (Check file cert)) (Some w) reply × (status ≡ reply_status reply)) ⊎ (status ≡ 5) ⊎ ((status ≡ 4) × Faulted (Some (Check file cert)) (Some w) before now) → EndsBy (check_answer C bytes) status
-check_ends file cert w C bytes before now status input there calm (inl (Checked x, answers, is)) =
-    subst (λ (a : CheckAnswer). EndsBy a status) (same_answer file cert w x.weights C (answer_of x.outcome) (check_answer C bytes) answers.1 (record { accepted_file = input; bytes = bytes; there = there; answer_is = refl })) (ends_by x.outcome status is)
-check_ends file cert w C bytes before now status input there calm (inl (Refused LongCertificate, answers, is)) =
-    subst (λ (a : CheckAnswer). EndsBy a status) (same_answer file cert w answers.0 C too_long (check_answer C bytes) answers.1 (record { accepted_file = input; bytes = bytes; there = there; answer_is = refl })) (inl is)
-check_ends file cert w C bytes before now status input there calm (inl (Solved x, answers, is)) = absurd answers
-check_ends file cert w C bytes before now status input there calm (inl (Valued x, answers, is)) = absurd answers
-check_ends file cert w C bytes before now status input there calm (inl (Generated x, answers, is)) = absurd answers
-check_ends file cert w C bytes before now status input there calm (inl (Refused (Order e), answers, is)) = absurd answers
-check_ends file cert w C bytes before now status input there calm (inl (Refused Words, answers, is)) = absurd answers
-check_ends file cert w C bytes before now status input there calm (inl (Refused (Input e), answers, is)) = absurd (cc (answers, input))
-check_ends file cert w C bytes before now status input there calm (inr (inl five)) = want_ends (check_answer C bytes) status five
-check_ends file cert w C bytes before now status input there calm (inr (inr (four, inl (inl missing)))) = absurd (not_missing w file (Ok C) input missing)
-check_ends file cert w C bytes before now status input there calm (inr (inr (four, inl (inr missing)))) = absurd (cc (missing, there))
-check_ends file cert w C bytes before now status input there calm (inr (inr (four, inr rose))) = absurd (calm rose)
+check_ends : (format : Format) (file cert : List ℕ) (w : World) (C : Instance) (bytes : List ℕ) (before now status : ℕ) → input_named format w.files file ≡ Some (Ok C) → file_named w.files cert ≡ Some bytes → (Rose before now → ⊥)
+    → ((reply : Reply) × Answers (Some (Check format file cert)) (Some w) reply × (status ≡ reply_status reply)) ⊎ (status ≡ 5) ⊎ ((status ≡ 4) × Faulted (Some (Check format file cert)) (Some w) before now) → EndsBy (check_answer C.weights bytes) status
+check_ends format file cert w C bytes before now status input there calm (inl (Checked x, answers, is)) =
+    subst (λ (a : CheckAnswer). EndsBy a status) (same_answer format file cert w x.input C (answer_of x.outcome) (check_answer C.weights bytes) answers.1 (record { accepted_file = input; bytes = bytes; there = there; answer_is = refl })) (ends_by x.outcome status is)
+check_ends format file cert w C bytes before now status input there calm (inl (Refused LongCertificate, answers, is)) =
+    subst (λ (a : CheckAnswer). EndsBy a status) (same_answer format file cert w answers.0 C too_long (check_answer C.weights bytes) answers.1 (record { accepted_file = input; bytes = bytes; there = there; answer_is = refl })) (inl is)
+check_ends format file cert w C bytes before now status input there calm (inl (Solved x, answers, is)) = absurd answers
+check_ends format file cert w C bytes before now status input there calm (inl (Valued x, answers, is)) = absurd answers
+check_ends format file cert w C bytes before now status input there calm (inl (Generated x, answers, is)) = absurd answers
+check_ends format file cert w C bytes before now status input there calm (inl (Refused (Order e), answers, is)) = absurd answers
+check_ends format file cert w C bytes before now status input there calm (inl (Refused Words, answers, is)) = absurd answers
+check_ends format file cert w C bytes before now status input there calm (inl (Refused (Input e), answers, is)) = absurd (cc (answers, input))
+check_ends format file cert w C bytes before now status input there calm (inr (inl five)) = want_ends (check_answer C.weights bytes) status five
+check_ends format file cert w C bytes before now status input there calm (inr (inr (four, inl (inl missing)))) = absurd (not_missing format w file (Ok C) input missing)
+check_ends format file cert w C bytes before now status input there calm (inr (inr (four, inl (inr missing)))) = absurd (cc (missing, there))
+check_ends format file cert w C bytes before now status input there calm (inr (inr (four, inr rose))) = absurd (calm rose)
 
 not_missing_order : (n : ℕ) (w : World) (name : List ℕ) (input : Result (List ℕ) OrderFileRefusal) → order_named n w.files name ≡ Some input → IsMissing (Some w) name → ⊥
 not_missing_order n w name input is missing = let none : order_named n w.files name ≡ None = ap (order_reading_of n) missing in cc
 
-accepted_order : (file order_file : List ℕ) (w : World) (C : Matrix) (order : List ℕ) (e : OrderFileRefusal) → input_named w.files file ≡ Some (Ok C) → order_named C.size w.files order_file ≡ Some (Ok order) → IsRefusedOrder file order_file w e → ⊥
-accepted_order file order_file w C order e input there refused =
-    let same : C ≡ refused.weights = cc (input, refused.accepted_file) in
-    let read : order_named refused.weights.size w.files order_file ≡ Some (Ok order) = ap (λ (x : Matrix). order_named x.size w.files order_file) (sym same) ∙ there in
+accepted_order : (format : Format) (file order_file : List ℕ) (w : World) (C : Instance) (order : List ℕ) (e : OrderFileRefusal) → input_named format w.files file ≡ Some (Ok C) → order_named C.weights.size w.files order_file ≡ Some (Ok order) → IsRefusedOrder format file order_file w e → ⊥
+accepted_order format file order_file w C order e input there refused =
+    let same : C ≡ refused.input = cc (input, refused.accepted_file) in
+    let read : order_named refused.input.weights.size w.files order_file ≡ Some (Ok order) = ap (λ (x : Instance). order_named x.weights.size w.files order_file) (sym same) ∙ there in
     cc (read, refused.refused_order)
 
-value_ends : (file order_file : List ℕ) (w : World) (C : Matrix) (order : List ℕ) (before now status : ℕ) → input_named w.files file ≡ Some (Ok C) → order_named C.size w.files order_file ≡ Some (Ok order) → (Rose before now → ⊥)
-    → ((reply : Reply) × Answers (Some (Value file order_file)) (Some w) reply × (status ≡ reply_status reply)) ⊎ (status ≡ 5) ⊎ ((status ≡ 4) × Faulted (Some (Value file order_file)) (Some w) before now) → (status ≡ 0) ⊎ (status ≡ 5)
-value_ends file order_file w C order before now status input there calm (inl (Valued x, answers, is)) = inl is
-value_ends file order_file w C order before now status input there calm (inl (Solved x, answers, is)) = absurd answers
-value_ends file order_file w C order before now status input there calm (inl (Generated x, answers, is)) = absurd answers
-value_ends file order_file w C order before now status input there calm (inl (Checked x, answers, is)) = absurd answers
-value_ends file order_file w C order before now status input there calm (inl (Refused Words, answers, is)) = absurd answers
-value_ends file order_file w C order before now status input there calm (inl (Refused LongCertificate, answers, is)) = absurd answers
-value_ends file order_file w C order before now status input there calm (inl (Refused (Input e), answers, is)) = absurd (cc (answers, input))
-value_ends file order_file w C order before now status input there calm (inl (Refused (Order e), answers, is)) = absurd (accepted_order file order_file w C order e input there answers)
-value_ends file order_file w C order before now status input there calm (inr (inl five)) = inr five
-value_ends file order_file w C order before now status input there calm (inr (inr (four, inl (inl missing)))) = absurd (not_missing w file (Ok C) input missing)
-value_ends file order_file w C order before now status input there calm (inr (inr (four, inl (inr missing)))) = absurd (not_missing_order C.size w order_file (Ok order) there missing)
-value_ends file order_file w C order before now status input there calm (inr (inr (four, inr rose))) = absurd (calm rose)
+value_ends : (format : Format) (file order_file : List ℕ) (w : World) (C : Instance) (order : List ℕ) (before now status : ℕ) → input_named format w.files file ≡ Some (Ok C) → order_named C.weights.size w.files order_file ≡ Some (Ok order) → (Rose before now → ⊥)
+    → ((reply : Reply) × Answers (Some (Value format file order_file)) (Some w) reply × (status ≡ reply_status reply)) ⊎ (status ≡ 5) ⊎ ((status ≡ 4) × Faulted (Some (Value format file order_file)) (Some w) before now) → (status ≡ 0) ⊎ (status ≡ 5)
+value_ends format file order_file w C order before now status input there calm (inl (Valued x, answers, is)) = inl is
+value_ends format file order_file w C order before now status input there calm (inl (Solved x, answers, is)) = absurd answers
+value_ends format file order_file w C order before now status input there calm (inl (Generated x, answers, is)) = absurd answers
+value_ends format file order_file w C order before now status input there calm (inl (Checked x, answers, is)) = absurd answers
+value_ends format file order_file w C order before now status input there calm (inl (Refused Words, answers, is)) = absurd answers
+value_ends format file order_file w C order before now status input there calm (inl (Refused LongCertificate, answers, is)) = absurd answers
+value_ends format file order_file w C order before now status input there calm (inl (Refused (Input e), answers, is)) = absurd (cc (answers, input))
+value_ends format file order_file w C order before now status input there calm (inl (Refused (Order e), answers, is)) = absurd (accepted_order format file order_file w C order e input there answers)
+value_ends format file order_file w C order before now status input there calm (inr (inl five)) = inr five
+value_ends format file order_file w C order before now status input there calm (inr (inr (four, inl (inl missing)))) = absurd (not_missing format w file (Ok C) input missing)
+value_ends format file order_file w C order before now status input there calm (inr (inr (four, inl (inr missing)))) = absurd (not_missing_order C.weights.size w order_file (Ok order) there missing)
+value_ends format file order_file w C order before now status input there calm (inr (inr (four, inr rose))) = absurd (calm rose)
 
 gen_ends : (seed n : ℕ) (w : World) (before now status : ℕ) → (Rose before now → ⊥)
     → ((reply : Reply) × Answers (Some (Gen seed n)) (Some w) reply × (status ≡ reply_status reply)) ⊎ (status ≡ 5) ⊎ ((status ≡ 4) × Faulted (Some (Gen seed n)) (Some w) before now) → (status ≡ 0) ⊎ (status ≡ 6) ⊎ (status ≡ 5)
@@ -491,7 +492,7 @@ gen_ends seed n w before now status calm (inr (inr (four, inr rose))) = absurd (
 pub completes : (command : Option Command) (old new : Option World) (before now status : ℕ) → Ended command old new before now status → IfSome old (λ w. IsComplete command w before now status)
 completes command None new before now status ended = tt
 completes None (Some w) new before now status ended = tt
-completes (Some (Solve file nodes cert)) (Some w) new before now status ended = λ C input calm. solve_ends file nodes cert w C before now status input calm (reply_or (Some (Solve file nodes cert)) (Some w) new before now status ended)
-completes (Some (Check file cert)) (Some w) new before now status ended = λ C bytes input there calm. check_ends file cert w C bytes before now status input there calm (reply_or (Some (Check file cert)) (Some w) new before now status ended)
-completes (Some (Value file order_file)) (Some w) new before now status ended = λ C order input there calm. value_ends file order_file w C order before now status input there calm (reply_or (Some (Value file order_file)) (Some w) new before now status ended)
+completes (Some (Solve format file nodes cert)) (Some w) new before now status ended = λ C input calm. solve_ends format file nodes cert w C before now status input calm (reply_or (Some (Solve format file nodes cert)) (Some w) new before now status ended)
+completes (Some (Check format file cert)) (Some w) new before now status ended = λ C bytes input there calm. check_ends format file cert w C bytes before now status input there calm (reply_or (Some (Check format file cert)) (Some w) new before now status ended)
+completes (Some (Value format file order_file)) (Some w) new before now status ended = λ C order input there calm. value_ends format file order_file w C order before now status input there calm (reply_or (Some (Value format file order_file)) (Some w) new before now status ended)
 completes (Some (Gen seed n)) (Some w) new before now status ended = λ calm. gen_ends seed n w before now status calm (reply_or (Some (Gen seed n)) (Some w) new before now status ended)

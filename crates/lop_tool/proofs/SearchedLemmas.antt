@@ -13,7 +13,9 @@ use Rattle.lop_core.proofs.Alone.{core_outcome, spent_above, bound_closed}
 use Rattle.lop_core.proofs.CoreLemmas.{core_bound, prepared_true}
 use Rattle.lop_core.proofs.Monotone.{core_from_start, core_packed, core_packed_closed}
 use Rattle.lop_climb.specs.StartOrder.{IsBeckerOrder}
-use Rattle.lop_tool.specs.Reply.{IsPrepared, IsSearched, IsSolved, IsPrintable}
+use Rattle.lop_report.proofs.TotalLemmas.{within_limit}
+use Rattle.lop_tool.specs.declared.reply.Solution.{Solution}
+use Rattle.lop_tool.specs.Reply.{IsPrepared, IsSearched, IsSolved, IsOfSize, IsPrintable}
 use Rattle.lop_tool.specs.declared.reply.Reply.TheVariants.{Solved}
 
 of_core : (core : CoreFields) → HasHistory core → IsFinished core.problem core.state → IsWeights core.problem.weights → ((t : List ℕ) → IsBeckerOrder core.problem.weights t → weight core.problem.weights t ≤ℤ core.problem.start)
@@ -61,9 +63,9 @@ pub solved_from : (old core : CoreFields) → core.problem ≡ old.problem → I
 solved_from old core same p h f = subst (λ (k : ℕ). IsSolved k core) (ap (λ (q : Problem). q.budget) same) (of_prepared core (still_prepared old core same p) h f)
 
 -- its answer can be printed
-pub IsPrintable-solved : (budget : ℕ) (core : CoreFields) → IsSolved budget core → IsPrintable (Solved core)
-IsPrintable-solved budget core solved =
-    let weighs = weight_within core.problem.weights core.order solved.history.is_order in
+pub IsPrintable-solved : (budget : ℕ) (x : Solution) → IsSolved budget x.core → IsOfSize x.core.problem.weights.size x.profile → IsPrintable (Solved x)
+IsPrintable-solved budget x solved of_size =
+    let weighs = weight_within x.core.problem.weights x.core.order solved.history.is_order in
     let most = solved.searched.weights.bounded_sum in
-    let best : core.state.best ≡ weight core.problem.weights core.order = sym solved.history.weighs in
-    (solved.history.is_order.complete, omega (arith, ints, best, weighs.0))
+    let best : x.core.state.best ≡ weight x.core.problem.weights x.core.order = sym solved.history.weighs in
+    (solved.history.is_order.complete, within_limit x.core.state.best (omega (arith, ints, best, weighs.0, most)) (omega (arith, ints, best, weighs.1, most)), of_size)

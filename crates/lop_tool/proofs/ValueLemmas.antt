@@ -1,8 +1,9 @@
 -- How the steps of `value` come to its reply.
-use Rattle.std.proofs.Common.{◌≡◌, ℕ, List, Option, None, Some, IfSome, IfOk, Result, Ok, Err, ℤ, sym, ◌∙◌, ap}
+use Rattle.std.proofs.Common.{◌≡◌, ℕ, List, Option, None, Some, IfSome, IfOk, Result, Ok, Err, ℤ, sym, ◌∙◌, ap, subst}
 use Rattle.lop_desk.specs.World.{World, NamedFile, file_named}
 use Rattle.lop_desk.specs.Whole.{OnlyOpens}
-use Rattle.lop_model.specs.Matrix.{Matrix, weight}
+use Rattle.lop_words.specs.declared.command.Format.{Format}
+use Rattle.lop_tool.specs.declared.input.Instance.{Instance}
 use Rattle.lop_tool.specs.declared.reply.OrderFileRefusal.{OrderFileRefusal}
 use Rattle.lop_tool.specs.declared.reply.Refusal.TheVariants.{Words, Input, Order, LongCertificate}
 use Rattle.lop_tool.specs.declared.reply.Reply.{Reply}
@@ -20,31 +21,32 @@ named_order n name (Some w) bytes (Ok input) there read = ap (order_reading_of n
 named_order n name told bytes (Err e) there read = tt
 
 -- the files are the same where only the opened file differs
-weighed_at : (C D : Matrix) (file order_file : List ℕ) (w v : World) (value : ℤ) → OnlyOpens (Some w) (Some v) → D ≡ C → input_named w.files file ≡ Some (Ok C) → HasWeight C order_file v value → IsWeighedOrder file order_file w D value
-weighed_at C D file order_file w v value opens same input has = record {
-  accepted_file = input ∙ ap (λ (x : Matrix). Some (Ok x)) (sym same);
+weighed_at : (format : Format) (input : Instance) (file order_file : List ℕ) (w v : World) (value : ℤ) → OnlyOpens (Some w) (Some v) → input_named format w.files file ≡ Some (Ok input) → HasWeight input.weights order_file v value → IsWeighedOrder format file order_file w input value
+weighed_at format input file order_file w v value opens read has = record {
+  accepted_file = read;
   order = has.order;
-  accepted_order = ap (λ (x : Matrix). order_named x.size w.files order_file) same ∙ (ap (λ (fs : List NamedFile). order_named C.size fs order_file) (sym (same_files w v opens)) ∙ has.accepted_order);
-  value_is = has.value_is ∙ ap (λ (x : Matrix). weight x has.order) (sym same);
+  accepted_order = ap (λ (fs : List NamedFile). order_named input.weights.size fs order_file) (sym (same_files w v opens)) ∙ has.accepted_order;
+  value_is = has.value_is;
 }
 
-AnswersValue-named : (C : Matrix) (file order_file : List ℕ) (old mid : Option World) (reply : Reply) → OnlyOpens old mid → IfSome old (λ w. input_named w.files file ≡ Some (Ok C)) → WeighsNamed C order_file mid reply → AnswersValue file order_file old reply
-AnswersValue-named C file order_file None mid (Valued x) opens input weighs = tt
-AnswersValue-named C file order_file (Some w) None (Valued x) opens input weighs = absurd cc
-AnswersValue-named C file order_file (Some w) (Some v) (Valued x) opens input weighs = weighed_at C x.weights file order_file w v x.value opens weighs.0 input weighs.1
-AnswersValue-named C file order_file None mid (Refused (Order refusal)) opens input weighs = tt
-AnswersValue-named C file order_file (Some w) None (Refused (Order refusal)) opens input weighs = absurd cc
-AnswersValue-named C file order_file (Some w) (Some v) (Refused (Order refusal)) opens input weighs =
-    record { weights = C; accepted_file = input; refused_order = ap (λ (fs : List NamedFile). order_named C.size fs order_file) (sym (same_files w v opens)) ∙ weighs }
-AnswersValue-named C file order_file old mid (Refused (Input refusal)) opens input weighs = absurd weighs
-AnswersValue-named C file order_file old mid (Refused LongCertificate) opens input weighs = absurd weighs
-AnswersValue-named C file order_file old mid (Refused Words) opens input weighs = absurd weighs
-AnswersValue-named C file order_file old mid (Solved x) opens input weighs = absurd weighs
-AnswersValue-named C file order_file old mid (Generated x) opens input weighs = absurd weighs
-AnswersValue-named C file order_file old mid (Checked x) opens input weighs = absurd weighs
+AnswersValue-named : (format : Format) (input : Instance) (file order_file : List ℕ) (old mid : Option World) (reply : Reply) → OnlyOpens old mid → IfSome old (λ w. input_named format w.files file ≡ Some (Ok input)) → WeighsNamed input order_file mid reply → AnswersValue format file order_file old reply
+AnswersValue-named format input file order_file None mid (Valued x) opens read weighs = tt
+AnswersValue-named format input file order_file (Some w) None (Valued x) opens read weighs = absurd cc
+AnswersValue-named format input file order_file (Some w) (Some v) (Valued x) opens read weighs =
+    subst (λ (i : Instance). IsWeighedOrder format file order_file w i x.value) (sym weighs.0) (weighed_at format input file order_file w v x.value opens read weighs.1)
+AnswersValue-named format input file order_file None mid (Refused (Order refusal)) opens read weighs = tt
+AnswersValue-named format input file order_file (Some w) None (Refused (Order refusal)) opens read weighs = absurd cc
+AnswersValue-named format input file order_file (Some w) (Some v) (Refused (Order refusal)) opens read weighs =
+    record { input = input; accepted_file = read; refused_order = ap (λ (fs : List NamedFile). order_named input.weights.size fs order_file) (sym (same_files w v opens)) ∙ weighs }
+AnswersValue-named format input file order_file old mid (Refused (Input refusal)) opens read weighs = absurd weighs
+AnswersValue-named format input file order_file old mid (Refused LongCertificate) opens read weighs = absurd weighs
+AnswersValue-named format input file order_file old mid (Refused Words) opens read weighs = absurd weighs
+AnswersValue-named format input file order_file old mid (Solved x) opens read weighs = absurd weighs
+AnswersValue-named format input file order_file old mid (Generated x) opens read weighs = absurd weighs
+AnswersValue-named format input file order_file old mid (Checked x) opens read weighs = absurd weighs
 
 -- the same for an answer that may be none
-pub answers_value : {E : Type 0} (C : Matrix) (file order_file : List ℕ) (old mid : Option World) (result : Result Reply E) → OnlyOpens old mid → IfSome old (λ w. input_named w.files file ≡ Some (Ok C)) → IfOk result (WeighsNamed C order_file mid)
-    → IfOk result (AnswersValue file order_file old)
-answers_value C file order_file old mid (Ok reply) opens input weighs = AnswersValue-named C file order_file old mid reply opens input weighs
-answers_value C file order_file old mid (Err e) opens input weighs = weighs
+pub answers_value : {E : Type 0} (format : Format) (input : Instance) (file order_file : List ℕ) (old mid : Option World) (result : Result Reply E) → OnlyOpens old mid → IfSome old (λ w. input_named format w.files file ≡ Some (Ok input)) → IfOk result (WeighsNamed input order_file mid)
+    → IfOk result (AnswersValue format file order_file old)
+answers_value format input file order_file old mid (Ok reply) opens read weighs = AnswersValue-named format input file order_file old mid reply opens read weighs
+answers_value format input file order_file old mid (Err e) opens read weighs = weighs

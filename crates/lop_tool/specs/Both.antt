@@ -2,8 +2,8 @@
 use Rattle.std.specs.Prelude.{◌≡◌, ◌⊎◌, ℕ, ◌≤◌, Option, None, Some, IfSome}
 use Rattle.lop_desk.specs.World.{World}
 use Rattle.lop_desk.specs.Causes.{Rose}
-use Rattle.lop_tool.specs.declared.words.Command.{Command}
-use Rattle.lop_tool.specs.declared.words.Command.TheVariants.{Solve, Check, Value, Gen}
+use Rattle.lop_words.specs.declared.command.Command.{Command}
+use Rattle.lop_words.specs.declared.command.Command.TheVariants.{Solve, Check, Value, Gen}
 use Rattle.lop_tool.specs.Run.{Ended}
 
 -- one run ended, and then the other, which began where the first left the world
@@ -18,15 +18,15 @@ pub record BothEnded (first second : Option Command) (old new : Option World) (b
 -- a `solve` with a certificate, and the `check` of that certificate against the same file
 abbrev pub IsRoundTrip : Option Command → Option Command → Type 0
 IsRoundTrip None second = ⊥
-IsRoundTrip (Some (Check file cert)) second = ⊥
-IsRoundTrip (Some (Value file order_file)) second = ⊥
+IsRoundTrip (Some (Check format file cert)) second = ⊥
+IsRoundTrip (Some (Value format file order_file)) second = ⊥
 IsRoundTrip (Some (Gen seed n)) second = ⊥
-IsRoundTrip (Some (Solve file nodes None)) second = ⊥
-IsRoundTrip (Some (Solve file nodes (Some name))) None = ⊥
-IsRoundTrip (Some (Solve file nodes (Some name))) (Some (Solve other more cert)) = ⊥
-IsRoundTrip (Some (Solve file nodes (Some name))) (Some (Value other order_file)) = ⊥
-IsRoundTrip (Some (Solve file nodes (Some name))) (Some (Gen seed n)) = ⊥
-IsRoundTrip (Some (Solve file nodes (Some name))) (Some (Check other cert)) = (other ≡ file) × (cert ≡ name)
+IsRoundTrip (Some (Solve format file nodes None)) second = ⊥
+IsRoundTrip (Some (Solve format file nodes (Some name))) None = ⊥
+IsRoundTrip (Some (Solve format file nodes (Some name))) (Some (Solve kind other more cert)) = ⊥
+IsRoundTrip (Some (Solve format file nodes (Some name))) (Some (Value kind other order_file)) = ⊥
+IsRoundTrip (Some (Solve format file nodes (Some name))) (Some (Gen seed n)) = ⊥
+IsRoundTrip (Some (Solve format file nodes (Some name))) (Some (Check kind other cert)) = (kind ≡ format) × (other ≡ file) × (cert ≡ name)
 
 -- where no call failed and the first ended with 0 or 6, the second ends with the same, or for want of memory
 abbrev pub Agree : Option Command → Option Command → Option World → ℕ → ℕ → ℕ → ℕ → Type 0

@@ -9,25 +9,48 @@ use Rattle.lop_lolib.specs.declared.order.OrderRefusal.{OrderRefusal}
 use Rattle.lop_lolib.specs.OrderReading.{order_reading}
 use Rattle.lop_tool.specs.declared.reply.OrderFileRefusal.{OrderFileRefusal}
 use Rattle.lop_tool.specs.declared.reply.OrderFileRefusal.TheVariants.{TooLong as LongOrder, Order}
+use Rattle.lop_preflib.specs.Profile.{ProfileFields}
+use Rattle.lop_preflib.specs.declared.refusal.PrefRefusal.{PrefRefusal}
+use Rattle.lop_preflib.specs.Reading.{preflib_reading}
+use Rattle.lop_profile.specs.declared.profile.ProfileFault.{ProfileFault}
+use Rattle.lop_profile.specs.Reading.{profile_reading}
+use Rattle.lop_words.specs.declared.command.Format.{Format}
+use Rattle.lop_words.specs.declared.command.Format.TheVariants as format
+use Rattle.lop_tool.specs.declared.input.Instance.{Instance}
 use Rattle.lop_tool.specs.declared.reply.InputRefusal.{InputRefusal}
-use Rattle.lop_tool.specs.declared.reply.InputRefusal.TheVariants.{TooLong, Lolib}
+use Rattle.lop_tool.specs.declared.reply.InputRefusal.TheVariants.{TooLong, Lolib, Preflib, Profile}
 
--- the weights that a text holds
-abbrev pub weights_of : Result LolibFile LolibRefusal → Result Matrix InputRefusal
-weights_of (Ok file) = Ok file.weights
-weights_of (Err refusal) = Err (Lolib refusal)
+-- a matrix is an instance without a profile
+abbrev pub matrix_instance : Result LolibFile LolibRefusal → Result Instance InputRefusal
+matrix_instance (Ok file) = Ok (record { weights = file.weights; profile = None })
+matrix_instance (Err refusal) = Err (Lolib refusal)
+
+-- a profile with its weights
+abbrev pub weighed_instance : ProfileFields → Result Matrix ProfileFault → Result Instance InputRefusal
+weighed_instance profile (Ok C) = Ok (record { weights = C; profile = Some profile })
+weighed_instance profile (Err fault) = Err (Profile fault)
+
+-- the orders of voters are an instance by their preference matrix
+abbrev pub profile_instance : Result ProfileFields PrefRefusal → Result Instance InputRefusal
+profile_instance (Ok profile) = weighed_instance profile (profile_reading profile)
+profile_instance (Err refusal) = Err (Preflib refusal)
+
+-- what a text of this format holds
+abbrev pub text_reading : Format → List ℕ → Result Instance InputRefusal
+text_reading format.Lolib bytes = matrix_instance (lolib_reading bytes)
+text_reading format.Preflib bytes = profile_instance (preflib_reading bytes)
 
 -- what the bytes of an input file are accepted as, or the first refusal
-abbrev pub input_reading : List ℕ → Result Matrix InputRefusal
-input_reading bytes = if nat_lt (2 ^ 26) (length bytes) then Err TooLong else weights_of (lolib_reading bytes)
+abbrev pub input_reading : Format → List ℕ → Result Instance InputRefusal
+input_reading format bytes = if nat_lt (2 ^ 26) (length bytes) then Err TooLong else text_reading format bytes
 
-abbrev pub reading_of : Option (List ℕ) → Option (Result Matrix InputRefusal)
-reading_of None = None
-reading_of (Some bytes) = Some (input_reading bytes)
+abbrev pub reading_of : Format → Option (List ℕ) → Option (Result Instance InputRefusal)
+reading_of format None = None
+reading_of format (Some bytes) = Some (input_reading format bytes)
 
 -- the input under a name; none where no file has the name
-abbrev pub input_named : List NamedFile → List ℕ → Option (Result Matrix InputRefusal)
-input_named files name = reading_of (file_named files name)
+abbrev pub input_named : Format → List NamedFile → List ℕ → Option (Result Instance InputRefusal)
+input_named format files name = reading_of format (file_named files name)
 
 -- the order that a text spells
 abbrev pub order_of : Result (List ℕ) OrderRefusal → Result (List ℕ) OrderFileRefusal

@@ -5,10 +5,14 @@ use Rattle.lop_lolib.specs.declared.refusal.LolibRefusal.{LolibRefusal}
 use Rattle.lop_lolib.specs.declared.refusal.LolibRefusal.TheVariants.{Empty, BadSize, SizeRange, BadEntry, TooWide, Short, TooHeavy, Memory}
 use Rattle.lop_lolib.specs.declared.order.OrderRefusal.{OrderRefusal}
 use Rattle.lop_lolib.specs.declared.order.OrderRefusal.TheVariants as order
+use Rattle.lop_preflib.specs.declared.refusal.PrefRefusal.{PrefRefusal}
+use Rattle.lop_preflib.specs.declared.refusal.PrefRefusal.TheVariants as preflib
+use Rattle.lop_profile.specs.declared.profile.ProfileFault.{ProfileFault}
+use Rattle.lop_profile.specs.declared.profile.ProfileFault.TheVariants as profile
 use Rattle.lop_tool.specs.declared.reply.OrderFileRefusal.{OrderFileRefusal}
 use Rattle.lop_tool.specs.declared.reply.OrderFileRefusal.TheVariants as file
 use Rattle.lop_tool.specs.declared.reply.InputRefusal.{InputRefusal}
-use Rattle.lop_tool.specs.declared.reply.InputRefusal.TheVariants.{TooLong, Lolib}
+use Rattle.lop_tool.specs.declared.reply.InputRefusal.TheVariants.{TooLong, Lolib, Preflib, Profile}
 
 -- no text is refused for want of memory
 abbrev pub lolib_refusal_words : LolibRefusal → List ℕ
@@ -21,9 +25,31 @@ lolib_refusal_words (Short count) = codes "short " ++ decimal count
 lolib_refusal_words (TooHeavy sum) = codes "too-heavy " ++ signed_decimal sum
 lolib_refusal_words Memory = []
 
+-- a word with its blank, `line` and a number
+abbrev pub line_words : List ℕ → ℕ → List ℕ
+line_words word line = word ++ codes "line " ++ decimal line
+
+abbrev pub preflib_refusal_words : PrefRefusal → List ℕ
+preflib_refusal_words (preflib.NoSize line) = line_words (codes "no-size ") line
+preflib_refusal_words (preflib.SizeRange line) = line_words (codes "size-range ") line
+preflib_refusal_words (preflib.BadLine line) = line_words (codes "bad-line ") line
+preflib_refusal_words (preflib.BadCount line) = line_words (codes "bad-count ") line
+preflib_refusal_words (preflib.Ties line) = line_words (codes "ties ") line
+preflib_refusal_words (preflib.BadAlternative line) = line_words (codes "bad-alternative ") line
+preflib_refusal_words (preflib.Repeated line) = line_words (codes "repeated ") line
+preflib_refusal_words (preflib.TooMany line) = line_words (codes "too-many ") line
+preflib_refusal_words preflib.NoOrders = codes "no-orders"
+preflib_refusal_words preflib.Memory = []
+
+abbrev pub profile_fault_words : ProfileFault → List ℕ
+profile_fault_words (profile.TooHeavy sum) = codes "too-heavy " ++ signed_decimal sum
+profile_fault_words profile.Memory = []
+
 abbrev pub input_refusal_words : InputRefusal → List ℕ
 input_refusal_words TooLong = codes "too-long"
 input_refusal_words (Lolib refusal) = lolib_refusal_words refusal
+input_refusal_words (Preflib refusal) = preflib_refusal_words refusal
+input_refusal_words (Profile fault) = profile_fault_words fault
 
 abbrev pub order_refusal_words : OrderRefusal → List ℕ
 order_refusal_words (order.BadWord place) = codes "order-word " ++ decimal place

@@ -1,8 +1,9 @@
 -- What it is to leave a certificate, and to deliver a reply.
-use Rattle.std.specs.Prelude.{◌≡◌, ℕ, List, [], take, Option, None, Some, IfSome, Result, MatchResult, ⊤}
+use Rattle.std.specs.Prelude.{◌≡◌, ℕ, ◌≤◌, List, [], take, Option, None, Some, IfSome, Result, MatchResult, ⊤}
 use Rattle.lop_desk.specs.World.{World, with_finished, with_written, with_printed}
 use Rattle.lop_desk.specs.Causes.{Rose}
 use Rattle.lop_core.specs.Core.{CoreFields}
+use Rattle.lop_certtext.specs.Tree.{tree_size}
 use Rattle.lop_certtext.specs.Certificate.{Certificate, certificate_text, IsTreeCertificate}
 use Rattle.lop_certwrite.specs.CoreTree.{IsCertificateOf}
 use Rattle.lop_tool.specs.declared.reply.Reply.{Reply}
@@ -20,17 +21,19 @@ HasBegunNamed (Some name) told = HasBegun name told
 
 -- where the reply leaves a file, it was begun
 abbrev pub IsBegun : Option (List ℕ) → Reply → Option World → Type 0
-IsBegun name (Solved core) told = HasBegunNamed name told
+IsBegun name (Solved x) told = HasBegunNamed name told
 IsBegun name (Checked x) told = ⊤
 IsBegun name (Valued x) told = ⊤
 IsBegun name (Generated x) told = ⊤
 IsBegun name (Refused refusal) told = ⊤
 
--- the begun file was finished with the text of the core's certificate, which is true of its weights
+-- the begun file was finished with the text of the core's certificate, which is true of its weights and whose tree has at
+-- least as many nodes as were evaluated
 pub record WritesCertificate (core : CoreFields) (old new : Option World) : Type 0 where
   pub certificate : Certificate
   pub of_core : IsCertificateOf core certificate
   pub holds : IsTreeCertificate core.problem.weights certificate
+  pub enough : core.state.evaluated ≤ tree_size certificate.tree
   pub finished : new ≡ with_finished (with_written (certificate_text certificate) old)
 
 -- Ok leaves the file of the reply, if there is one; after an Err the files are as before

@@ -1,6 +1,4 @@
-pub mod Command
-pub mod WordsFault
-pub mod AnswerText
+pub mod Rejection
 pub mod Input
 pub mod InputRefusal
 pub mod Stops

@@ -1,20 +1,25 @@
 -- What a run replies.
-use Rattle.std.specs.Prelude.{◌≡◌, ℕ, ◌≤◌, ◌^◌, List, [], length, ◌++◌, codes, ℤ, pos, ◌≤ℤ◌, ◌<ℤ◌, if◌then◌else◌}
+use Rattle.std.specs.Prelude.{◌≡◌, ℕ, ◌≤◌, ◌^◌, List, [], length, ◌++◌, codes, ℤ, unsigned_abs, ◌≤ℤ◌, ◌<ℤ◌, Option, IfSome, if◌then◌else◌}
 use Rattle.lop_model.specs.Order.{IsOrder}
 use Rattle.lop_model.specs.Matrix.{Matrix, IsWeights, weight, IsUpperBound}
 use Rattle.lop_leaf.specs.Packing.{packing_bound}
 use Rattle.lop_core.specs.Machine.{state_bound}
 use Rattle.lop_core.specs.Core.{CoreFields, HasHistory}
 use Rattle.lop_core.specs.Outcome.{IsOutcome, IsFinished}
+use Rattle.lop_preflib.specs.Profile.{ProfileFields}
+use Rattle.lop_tool.specs.declared.input.Instance.{Instance}
 use Rattle.lop_tool.specs.declared.reply.Outcome.{Outcome}
 use Rattle.lop_tool.specs.declared.reply.Outcome.TheVariants.{Accepted, Rejected}
 use Rattle.lop_tool.specs.declared.reply.Refusal.{Refusal}
 use Rattle.lop_tool.specs.declared.reply.Refusal.TheVariants.{Words, Input, Order, LongCertificate}
+use Rattle.lop_tool.specs.declared.reply.Solution.{Solution}
 use Rattle.lop_tool.specs.declared.reply.Reply.{Reply}
 use Rattle.lop_tool.specs.declared.reply.Reply.TheVariants.{Refused, Solved, Checked, Valued, Generated}
 use Rattle.lop_climb.specs.StartOrder.{IsBeckerOrder}
 use Rattle.lop_tool.specs.InputRefusal.{input_refusal_words, order_file_refusal_words}
-use Rattle.lop_tool.specs.AnswerText.{is_optimal, solve_text, accepted_text, rejected_line, value_text, gen_text}
+use Rattle.lop_report.specs.Lines.{is_optimal}
+use Rattle.lop_report.specs.AnswerText.{solve_text, accepted_text, value_text, gen_text}
+use Rattle.lop_tool.specs.Rejection.{rejected_line}
 
 abbrev pub refusal_words : Refusal → List ℕ
 refusal_words Words = codes "words"
@@ -31,9 +36,13 @@ refusal_status (Input refusal) = 3
 refusal_status (Order refusal) = 3
 refusal_status LongCertificate = 3
 
+-- what was solved
+abbrev pub instance_of : Solution → Instance
+instance_of x = record { weights = x.core.problem.weights; profile = x.profile }
+
 -- the answer of a search, from its core
-abbrev pub solution_text : CoreFields → List ℕ
-solution_text core = solve_text core.problem.weights core.order core.state.best (state_bound core.state) core.state.evaluated
+abbrev pub solution_text : Solution → List ℕ
+solution_text x = solve_text x.core.problem.weights x.profile x.core.order x.core.state.best (state_bound x.core.state) x.core.state.evaluated
 
 -- the answer of a search on the weights of a seed
 abbrev pub generation_text : ℕ → CoreFields → List ℕ
@@ -58,14 +67,14 @@ outcome_status (Rejected line reason) = 1
 
 abbrev pub reply_text : Reply → List ℕ
 reply_text (Refused refusal) = refusal_line refusal
-reply_text (Solved core) = solution_text core
+reply_text (Solved x) = solution_text x
 reply_text (Checked x) = outcome_text x.outcome
-reply_text (Valued x) = value_text x.weights x.value
+reply_text (Valued x) = value_text x.input.weights x.input.profile x.value
 reply_text (Generated x) = generation_text x.seed x.core
 
 abbrev pub reply_status : Reply → ℕ
 reply_status (Refused refusal) = refusal_status refusal
-reply_status (Solved core) = search_status core
+reply_status (Solved x) = search_status x.core
 reply_status (Checked x) = outcome_status x.outcome
 reply_status (Valued x) = 0
 reply_status (Generated x) = search_status x.core
@@ -96,10 +105,14 @@ pub record IsSolved (budget : ℕ) (core : CoreFields) : Type 0 where
   pub finished : IsFinished core.problem core.state
   pub searched : IsSearched core.problem.weights budget core.order core.state.best (state_bound core.state) core.state.evaluated
 
+-- a profile's objects are those of the weights
+abbrev pub IsOfSize : ℕ → Option ProfileFields → Type 0
+IsOfSize n profile = IfSome profile (λ p. p.size ≡ n)
+
 -- what printing asks of a reply
 abbrev pub IsPrintable : Reply → Type 0
 IsPrintable (Refused refusal) = Unit {0}
-IsPrintable (Solved core) = (length core.order ≡ core.problem.weights.size) × (core.state.best ≤ℤ pos (2 ^ 63))
+IsPrintable (Solved x) = (length x.core.order ≡ x.core.problem.weights.size) × (unsigned_abs x.core.state.best ≤ 2 ^ 63) × IsOfSize x.core.problem.weights.size x.profile
 IsPrintable (Checked x) = Unit {0}
-IsPrintable (Valued x) = x.value ≤ℤ pos (2 ^ 63)
+IsPrintable (Valued x) = unsigned_abs x.value ≤ 2 ^ 63
 IsPrintable (Generated x) = Unit {0}

@@ -1,5 +1,5 @@
 -- What a run promises.
-use Rattle.std.specs.Prelude.{◌≡◌, ◌⊎◌, ℕ, List, take, ℤ, Option, None, Some, IfSome, Result, Ok, Err, ⊤}
+use Rattle.std.specs.Prelude.{◌≡◌, ◌⊎◌, ℕ, ◌≤◌, List, take, ℤ, Option, None, Some, IfSome, Result, Ok, Err, ⊤}
 use Rattle.lop_desk.specs.World.{World, NamedFile, file_named, put_file, with_opened, with_made, with_printed}
 use Rattle.lop_desk.specs.Causes.{Rose}
 use Rattle.lop_desk.specs.Desk.{IsMissing}
@@ -7,16 +7,20 @@ use Rattle.lop_model.specs.Matrix.{Matrix, IsUpperBound, weight}
 use Rattle.lop_certtext.specs.declared.reason.Reason.{Reason}
 use Rattle.lop_check.specs.Verdict.{IsWeighed}
 use Rattle.lop_core.specs.Core.{CoreFields}
+use Rattle.lop_certtext.specs.Tree.{tree_size}
 use Rattle.lop_certtext.specs.Certificate.{Certificate, certificate_text, IsTreeCertificate}
 use Rattle.lop_certwrite.specs.CoreTree.{IsCertificateOf}
 use Rattle.lop_certtext.specs.Answer.{CheckAnswer, accepted, rejected, too_long, check_answer}
-use Rattle.lop_tool.specs.declared.words.Command.{Command}
-use Rattle.lop_tool.specs.declared.words.Command.TheVariants.{Solve, Check, Value, Gen}
+use Rattle.lop_words.specs.declared.command.Command.{Command}
+use Rattle.lop_words.specs.declared.command.Command.TheVariants.{Solve, Check, Value, Gen}
+use Rattle.lop_words.specs.declared.command.Format.{Format}
+use Rattle.lop_tool.specs.declared.input.Instance.{Instance}
 use Rattle.lop_tool.specs.declared.reply.InputRefusal.{InputRefusal}
 use Rattle.lop_tool.specs.declared.reply.OrderFileRefusal.{OrderFileRefusal}
 use Rattle.lop_tool.specs.declared.reply.Refusal.{Refusal}
 use Rattle.lop_tool.specs.declared.reply.Refusal.TheVariants.{Words, Input, Order, LongCertificate}
 use Rattle.lop_gen.specs.Generated.{generated_matrix}
+use Rattle.lop_tool.specs.declared.reply.Solution.{Solution}
 use Rattle.lop_tool.specs.declared.reply.Generation.{Generation}
 use Rattle.lop_tool.specs.declared.reply.Outcome.{Outcome}
 use Rattle.lop_tool.specs.declared.reply.Outcome.TheVariants.{Accepted, Rejected}
@@ -24,9 +28,10 @@ use Rattle.lop_tool.specs.declared.reply.Reply.{Reply}
 use Rattle.lop_tool.specs.declared.reply.Reply.TheVariants.{Refused, Solved, Checked, Valued, Generated}
 use Rattle.lop_tool.specs.declared.reply.Stop.{Stop}
 use Rattle.lop_tool.specs.declared.reply.Stop.TheVariants.{Fault, Memory}
-use Rattle.lop_tool.specs.AnswerText.{accepted_text, rejected_line, value_text}
+use Rattle.lop_report.specs.AnswerText.{accepted_text, value_text}
+use Rattle.lop_tool.specs.Rejection.{rejected_line}
 use Rattle.lop_tool.specs.Input.{input_named, order_named}
-use Rattle.lop_tool.specs.Reply.{IsSolved, refusal_line, reply_text, reply_status, solved_status, search_status, solution_text, generation_text}
+use Rattle.lop_tool.specs.Reply.{IsSolved, instance_of, refusal_line, reply_text, reply_status, solved_status, search_status, solution_text, generation_text}
 
 -- the files and the printed bytes alone
 abbrev pub settled : Option World → Option World
@@ -40,28 +45,30 @@ PrintsOnly old new text = settled new ≡ with_printed text (settled old)
 abbrev pub LeavesAll : Option World → Option World → Type 0
 LeavesAll old new = settled new ≡ settled old
 
--- the file of weights that a command reads
+-- the name of the file of weights that a command reads
 abbrev pub input_file : Command → Option (List ℕ)
-input_file (Solve file nodes cert) = Some file
-input_file (Check file cert) = Some file
-input_file (Value file order_file) = Some file
+input_file (Solve format file nodes cert) = Some file
+input_file (Check format file cert) = Some file
+input_file (Value format file order_file) = Some file
 input_file (Gen seed n) = None
 
--- the input under a name, if there is one
-abbrev pub input_at : Option (List ℕ) → List NamedFile → Option (Result Matrix InputRefusal)
-input_at None files = None
-input_at (Some file) files = input_named files file
+-- the input that a command reads
+abbrev pub command_input : Command → List NamedFile → Option (Result Instance InputRefusal)
+command_input (Solve format file nodes cert) files = input_named format files file
+command_input (Check format file cert) files = input_named format files file
+command_input (Value format file order_file) files = input_named format files file
+command_input (Gen seed n) files = None
 
 -- the input of a command: none without a command, and where its file isn't there
-abbrev pub input_for : Option Command → List NamedFile → Option (Result Matrix InputRefusal)
+abbrev pub input_for : Option Command → List NamedFile → Option (Result Instance InputRefusal)
 input_for None files = None
-input_for (Some command) files = input_at (input_file command) files
+input_for (Some command) files = command_input command files
 
 -- the second file that a command reads, a certificate or an order, isn't there
 abbrev pub SecondMissing : Command → Option World → Type 0
-SecondMissing (Solve file nodes cert) old = ⊥
-SecondMissing (Check file cert) old = IsMissing old cert
-SecondMissing (Value file order_file) old = IsMissing old order_file
+SecondMissing (Solve format file nodes cert) old = ⊥
+SecondMissing (Check format file cert) old = IsMissing old cert
+SecondMissing (Value format file order_file) old = IsMissing old order_file
 SecondMissing (Gen seed n) old = ⊥
 
 -- the file under a name, if one is named, isn't there
@@ -79,22 +86,22 @@ abbrev pub Faulted : Option Command → Option World → ℕ → ℕ → Type 0
 Faulted command old before now = NamesMissing command old ⊎ Rose before now
 
 -- the reply to `solve`: the file is refused, or its weights were searched with the node budget
-abbrev pub AnswersSolve : List ℕ → ℕ → Option World → Reply → Type 0
-AnswersSolve file nodes old (Solved core) = IsSolved nodes core × IfSome old (λ w. input_named w.files file ≡ Some (Ok core.problem.weights))
-AnswersSolve file nodes old (Refused (Input refusal)) = IfSome old (λ w. input_named w.files file ≡ Some (Err refusal))
-AnswersSolve file nodes old (Refused Words) = ⊥
-AnswersSolve file nodes old (Refused LongCertificate) = ⊥
-AnswersSolve file nodes old (Checked x) = ⊥
-AnswersSolve file nodes old (Valued x) = ⊥
-AnswersSolve file nodes old (Generated x) = ⊥
-AnswersSolve file nodes old (Refused (Order refusal)) = ⊥
+abbrev pub AnswersSolve : Format → List ℕ → ℕ → Option World → Reply → Type 0
+AnswersSolve format file nodes old (Solved x) = IsSolved nodes x.core × IfSome old (λ w. input_named format w.files file ≡ Some (Ok (instance_of x)))
+AnswersSolve format file nodes old (Refused (Input refusal)) = IfSome old (λ w. input_named format w.files file ≡ Some (Err refusal))
+AnswersSolve format file nodes old (Refused Words) = ⊥
+AnswersSolve format file nodes old (Refused LongCertificate) = ⊥
+AnswersSolve format file nodes old (Checked x) = ⊥
+AnswersSolve format file nodes old (Valued x) = ⊥
+AnswersSolve format file nodes old (Generated x) = ⊥
+AnswersSolve format file nodes old (Refused (Order refusal)) = ⊥
 
--- the file is accepted with C, and the checker's answer for the certificate is this one
-pub record IsChecked (file cert : List ℕ) (w : World) (C : Matrix) (answer : CheckAnswer) : Type 0 where
-  pub accepted_file : input_named w.files file ≡ Some (Ok C)
+-- the file is accepted with this input, and the checker's answer for the certificate is this one
+pub record IsChecked (format : Format) (file cert : List ℕ) (w : World) (input : Instance) (answer : CheckAnswer) : Type 0 where
+  pub accepted_file : input_named format w.files file ≡ Some (Ok input)
   pub bytes : List ℕ
   pub there : file_named w.files cert ≡ Some bytes
-  pub answer_is : check_answer C bytes ≡ answer
+  pub answer_is : check_answer input.weights bytes ≡ answer
 
 -- the checker's answer that an outcome stands for
 abbrev pub answer_of : Outcome → CheckAnswer
@@ -107,39 +114,39 @@ IsBounded C (Accepted value bound) = IsWeighed C value × IsUpperBound C bound
 IsBounded C (Rejected line reason) = ⊤
 
 -- the reply to `check`: the file or the certificate is refused, or this is the outcome
-abbrev pub AnswersCheck : List ℕ → List ℕ → Option World → Reply → Type 0
-AnswersCheck file cert old (Checked x) = IsBounded x.weights x.outcome × IfSome old (λ w. IsChecked file cert w x.weights (answer_of x.outcome))
-AnswersCheck file cert old (Refused (Input refusal)) = IfSome old (λ w. input_named w.files file ≡ Some (Err refusal))
-AnswersCheck file cert old (Refused LongCertificate) = IfSome old (λ w. (C : Matrix) × IsChecked file cert w C too_long)
-AnswersCheck file cert old (Refused Words) = ⊥
-AnswersCheck file cert old (Solved x) = ⊥
-AnswersCheck file cert old (Valued x) = ⊥
-AnswersCheck file cert old (Generated x) = ⊥
-AnswersCheck file cert old (Refused (Order refusal)) = ⊥
+abbrev pub AnswersCheck : Format → List ℕ → List ℕ → Option World → Reply → Type 0
+AnswersCheck format file cert old (Checked x) = IsBounded x.input.weights x.outcome × IfSome old (λ w. IsChecked format file cert w x.input (answer_of x.outcome))
+AnswersCheck format file cert old (Refused (Input refusal)) = IfSome old (λ w. input_named format w.files file ≡ Some (Err refusal))
+AnswersCheck format file cert old (Refused LongCertificate) = IfSome old (λ w. (input : Instance) × IsChecked format file cert w input too_long)
+AnswersCheck format file cert old (Refused Words) = ⊥
+AnswersCheck format file cert old (Solved x) = ⊥
+AnswersCheck format file cert old (Valued x) = ⊥
+AnswersCheck format file cert old (Generated x) = ⊥
+AnswersCheck format file cert old (Refused (Order refusal)) = ⊥
 
--- the file is accepted with C and the other file with an order of C's objects, which has that weight
-pub record IsWeighedOrder (file order_file : List ℕ) (w : World) (C : Matrix) (value : ℤ) : Type 0 where
-  pub accepted_file : input_named w.files file ≡ Some (Ok C)
+-- the file is accepted with this input and the other file with an order of its objects, which has that weight
+pub record IsWeighedOrder (format : Format) (file order_file : List ℕ) (w : World) (input : Instance) (value : ℤ) : Type 0 where
+  pub accepted_file : input_named format w.files file ≡ Some (Ok input)
   pub order : List ℕ
-  pub accepted_order : order_named C.size w.files order_file ≡ Some (Ok order)
-  pub value_is : value ≡ weight C order
+  pub accepted_order : order_named input.weights.size w.files order_file ≡ Some (Ok order)
+  pub value_is : value ≡ weight input.weights order
 
 -- the file is accepted, and the order is refused for this
-pub record IsRefusedOrder (file order_file : List ℕ) (w : World) (refusal : OrderFileRefusal) : Type 0 where
-  pub weights : Matrix
-  pub accepted_file : input_named w.files file ≡ Some (Ok weights)
-  pub refused_order : order_named weights.size w.files order_file ≡ Some (Err refusal)
+pub record IsRefusedOrder (format : Format) (file order_file : List ℕ) (w : World) (refusal : OrderFileRefusal) : Type 0 where
+  pub input : Instance
+  pub accepted_file : input_named format w.files file ≡ Some (Ok input)
+  pub refused_order : order_named input.weights.size w.files order_file ≡ Some (Err refusal)
 
 -- the reply to `value`: the file or the order is refused, or this is its weight
-abbrev pub AnswersValue : List ℕ → List ℕ → Option World → Reply → Type 0
-AnswersValue file order_file old (Valued x) = IfSome old (λ w. IsWeighedOrder file order_file w x.weights x.value)
-AnswersValue file order_file old (Refused (Input refusal)) = IfSome old (λ w. input_named w.files file ≡ Some (Err refusal))
-AnswersValue file order_file old (Refused (Order refusal)) = IfSome old (λ w. IsRefusedOrder file order_file w refusal)
-AnswersValue file order_file old (Refused LongCertificate) = ⊥
-AnswersValue file order_file old (Refused Words) = ⊥
-AnswersValue file order_file old (Solved x) = ⊥
-AnswersValue file order_file old (Checked x) = ⊥
-AnswersValue file order_file old (Generated x) = ⊥
+abbrev pub AnswersValue : Format → List ℕ → List ℕ → Option World → Reply → Type 0
+AnswersValue format file order_file old (Valued x) = IfSome old (λ w. IsWeighedOrder format file order_file w x.input x.value)
+AnswersValue format file order_file old (Refused (Input refusal)) = IfSome old (λ w. input_named format w.files file ≡ Some (Err refusal))
+AnswersValue format file order_file old (Refused (Order refusal)) = IfSome old (λ w. IsRefusedOrder format file order_file w refusal)
+AnswersValue format file order_file old (Refused LongCertificate) = ⊥
+AnswersValue format file order_file old (Refused Words) = ⊥
+AnswersValue format file order_file old (Solved x) = ⊥
+AnswersValue format file order_file old (Checked x) = ⊥
+AnswersValue format file order_file old (Generated x) = ⊥
 
 -- the weights are those that the seed gives, and they were searched with ten nodes at most
 pub record IsGenerated (seed n : ℕ) (x : Generation) : Type 0 where
@@ -157,9 +164,9 @@ AnswersGen seed n (Valued x) = ⊥
 
 -- the reply is the one to this command, and where files are told, to what they hold
 abbrev pub AnswersCommand : Command → Option World → Reply → Type 0
-AnswersCommand (Solve file nodes cert) old reply = AnswersSolve file nodes old reply
-AnswersCommand (Check file cert) old reply = AnswersCheck file cert old reply
-AnswersCommand (Value file order_file) old reply = AnswersValue file order_file old reply
+AnswersCommand (Solve format file nodes cert) old reply = AnswersSolve format file nodes old reply
+AnswersCommand (Check format file cert) old reply = AnswersCheck format file cert old reply
+AnswersCommand (Value format file order_file) old reply = AnswersValue format file order_file old reply
 AnswersCommand (Gen seed n) old reply = AnswersGen seed n reply
 
 abbrev pub Answers : Option Command → Option World → Reply → Type 0
@@ -172,11 +179,13 @@ StopCause command old before now Memory = ⊤
 
 -- ---- the certificate
 
--- the file under a name with the text of the core's certificate, which is true of its weights, has a property
+-- the file under a name with the text of the core's certificate, which is true of its weights and whose tree has at
+-- least as many nodes as were evaluated, has a property
 pub record HasCertificate (name : List ℕ) (core : CoreFields) (P : Option NamedFile → Type 0) : Type 0 where
   pub certificate : Certificate
   pub of_core : IsCertificateOf core certificate
   pub holds : IsTreeCertificate core.problem.weights certificate
+  pub enough : core.state.evaluated ≤ tree_size certificate.tree
   pub has : P (Some (record { name = name; bytes = certificate_text certificate }))
 
 -- the file that a core leaves under a name, if there is one, has a property
@@ -186,14 +195,14 @@ LeavesCertificate (Some name) core P = HasCertificate name core P
 
 -- the name under which a command leaves a certificate
 abbrev pub cert_name : Command → Option (List ℕ)
-cert_name (Solve file nodes cert) = cert
-cert_name (Check file cert) = None
-cert_name (Value file order_file) = None
+cert_name (Solve format file nodes cert) = cert
+cert_name (Check format file cert) = None
+cert_name (Value format file order_file) = None
 cert_name (Gen seed n) = None
 
 -- the file that a reply leaves under a name, if it leaves one, has a property
 abbrev pub LeavesFile : Option (List ℕ) → Reply → (Option NamedFile → Type 0) → Type 0
-LeavesFile name (Solved core) P = LeavesCertificate name core P
+LeavesFile name (Solved x) P = LeavesCertificate name x.core P
 LeavesFile name (Checked x) P = P None
 LeavesFile name (Valued x) P = P None
 LeavesFile name (Generated x) P = P None
@@ -229,55 +238,55 @@ pub record ExactlyWhere (status answer : ℕ) (fact fault : Type 0) : Type 0 whe
 
 -- the file was accepted, its weights were searched, what was printed is the answer, and the certificate of the search
 -- stands under the name, if there is one
-pub record Solves (file : List ℕ) (nodes : ℕ) (cert : Option (List ℕ)) (w : World) (old new : Option World) (status : ℕ) : Type 0 where
-  pub core : CoreFields
-  pub accepted_file : input_named w.files file ≡ Some (Ok core.problem.weights)
-  pub solved : IsSolved nodes core
-  pub status_is : status ≡ search_status core
-  pub left : LeavesCertificate cert core (λ file. settled new ≡ with_printed (solution_text core) (with_file file (settled old)))
+pub record Solves (format : Format) (file : List ℕ) (nodes : ℕ) (cert : Option (List ℕ)) (w : World) (old new : Option World) (status : ℕ) : Type 0 where
+  pub solution : Solution
+  pub accepted_file : input_named format w.files file ≡ Some (Ok (instance_of solution))
+  pub solved : IsSolved nodes solution.core
+  pub status_is : status ≡ search_status solution.core
+  pub left : LeavesCertificate cert solution.core (λ file. settled new ≡ with_printed (solution_text solution) (with_file file (settled old)))
 
 -- with status 0 or 6, `solve` solves its file
 abbrev pub SolvesFile : Option Command → World → Option World → Option World → ℕ → Type 0
 SolvesFile None w old new status = ⊤
-SolvesFile (Some (Check file cert)) w old new status = ⊤
-SolvesFile (Some (Value file order_file)) w old new status = ⊤
+SolvesFile (Some (Check format file cert)) w old new status = ⊤
+SolvesFile (Some (Value format file order_file)) w old new status = ⊤
 SolvesFile (Some (Gen seed n)) w old new status = ⊤
-SolvesFile (Some (Solve file nodes cert)) w old new status = (status ≡ 0) ⊎ (status ≡ 6) → Solves file nodes cert w old new status
+SolvesFile (Some (Solve format file nodes cert)) w old new status = (status ≡ 0) ⊎ (status ≡ 6) → Solves format file nodes cert w old new status
 
 -- the checker accepts the certificate, no order of the file weighs more than the bound, and both numbers were printed
-pub record Accepts (file cert : List ℕ) (w : World) (old new : Option World) (status : ℕ) : Type 0 where
-  pub weights : Matrix
+pub record Accepts (format : Format) (file cert : List ℕ) (w : World) (old new : Option World) (status : ℕ) : Type 0 where
+  pub input : Instance
   pub value : ℤ
   pub bound : ℤ
-  pub checked : IsChecked file cert w weights (accepted value bound)
-  pub weighed : IsWeighed weights value
-  pub bounds : IsUpperBound weights bound
+  pub checked : IsChecked format file cert w input (accepted value bound)
+  pub weighed : IsWeighed input.weights value
+  pub bounds : IsUpperBound input.weights bound
   pub status_is : status ≡ solved_status value bound
   pub text : PrintsOnly old new (accepted_text value bound)
 
 -- with status 0 or 6, `check` accepts its certificate
 abbrev pub AcceptsCertificate : Option Command → World → Option World → Option World → ℕ → Type 0
 AcceptsCertificate None w old new status = ⊤
-AcceptsCertificate (Some (Solve file nodes cert)) w old new status = ⊤
-AcceptsCertificate (Some (Value file order_file)) w old new status = ⊤
+AcceptsCertificate (Some (Solve format file nodes cert)) w old new status = ⊤
+AcceptsCertificate (Some (Value format file order_file)) w old new status = ⊤
 AcceptsCertificate (Some (Gen seed n)) w old new status = ⊤
-AcceptsCertificate (Some (Check file cert)) w old new status = (status ≡ 0) ⊎ (status ≡ 6) → Accepts file cert w old new status
+AcceptsCertificate (Some (Check format file cert)) w old new status = (status ≡ 0) ⊎ (status ≡ 6) → Accepts format file cert w old new status
 
 -- the order's weight in the file was printed
-pub record Weighs (file order_file : List ℕ) (w : World) (old new : Option World) (status : ℕ) : Type 0 where
-  pub weights : Matrix
+pub record Weighs (format : Format) (file order_file : List ℕ) (w : World) (old new : Option World) (status : ℕ) : Type 0 where
+  pub input : Instance
   pub value : ℤ
-  pub weighed : IsWeighedOrder file order_file w weights value
+  pub weighed : IsWeighedOrder format file order_file w input value
   pub status_is : status ≡ 0
-  pub text : PrintsOnly old new (value_text weights value)
+  pub text : PrintsOnly old new (value_text input.weights input.profile value)
 
 -- with status 0 or 6, `value` weighs its order
 abbrev pub WeighsOrder : Option Command → World → Option World → Option World → ℕ → Type 0
 WeighsOrder None w old new status = ⊤
-WeighsOrder (Some (Solve file nodes cert)) w old new status = ⊤
-WeighsOrder (Some (Check file cert)) w old new status = ⊤
+WeighsOrder (Some (Solve format file nodes cert)) w old new status = ⊤
+WeighsOrder (Some (Check format file cert)) w old new status = ⊤
 WeighsOrder (Some (Gen seed n)) w old new status = ⊤
-WeighsOrder (Some (Value file order_file)) w old new status = (status ≡ 0) ⊎ (status ≡ 6) → Weighs file order_file w old new status
+WeighsOrder (Some (Value format file order_file)) w old new status = (status ≡ 0) ⊎ (status ≡ 6) → Weighs format file order_file w old new status
 
 -- the numbers of a finished search on the weights of the seed were printed
 pub record Generates (seed n : ℕ) (old new : Option World) (status : ℕ) : Type 0 where
@@ -289,22 +298,22 @@ pub record Generates (seed n : ℕ) (old new : Option World) (status : ℕ) : Ty
 -- with status 0 or 6, `gen` searches the weights of its seed
 abbrev pub GeneratesWeights : Option Command → Option World → Option World → ℕ → Type 0
 GeneratesWeights None old new status = ⊤
-GeneratesWeights (Some (Solve file nodes cert)) old new status = ⊤
-GeneratesWeights (Some (Check file cert)) old new status = ⊤
-GeneratesWeights (Some (Value file order_file)) old new status = ⊤
+GeneratesWeights (Some (Solve format file nodes cert)) old new status = ⊤
+GeneratesWeights (Some (Check format file cert)) old new status = ⊤
+GeneratesWeights (Some (Value format file order_file)) old new status = ⊤
 GeneratesWeights (Some (Gen seed n)) old new status = (status ≡ 0) ⊎ (status ≡ 6) → Generates seed n old new status
 
 -- the file of `check` is accepted, and the checker rejects the certificate
-pub record IsRejection (file cert : List ℕ) (w : World) (line : ℕ) (reason : Reason) : Type 0 where
-  pub weights : Matrix
-  pub checked : IsChecked file cert w weights (rejected line reason)
+pub record IsRejection (format : Format) (file cert : List ℕ) (w : World) (line : ℕ) (reason : Reason) : Type 0 where
+  pub input : Instance
+  pub checked : IsChecked format file cert w input (rejected line reason)
 
 abbrev pub Rejects : Option Command → World → ℕ → Reason → Type 0
 Rejects None w line reason = ⊥
-Rejects (Some (Solve file nodes cert)) w line reason = ⊥
-Rejects (Some (Value file order_file)) w line reason = ⊥
+Rejects (Some (Solve format file nodes cert)) w line reason = ⊥
+Rejects (Some (Value format file order_file)) w line reason = ⊥
 Rejects (Some (Gen seed n)) w line reason = ⊥
-Rejects (Some (Check file cert)) w line reason = IsRejection file cert w line reason
+Rejects (Some (Check format file cert)) w line reason = IsRejection format file cert w line reason
 
 -- the certificate of the command is rejected at a line
 abbrev pub IsRejected : Option Command → World → Type 0
@@ -317,18 +326,18 @@ PrintsRejection command w old new = (line : ℕ) × (reason : Reason) × Rejects
 -- the file of `check` is accepted, and the certificate is longer than the checker reads
 abbrev pub HasLongCertificate : Option Command → World → Type 0
 HasLongCertificate None w = ⊥
-HasLongCertificate (Some (Solve file nodes cert)) w = ⊥
-HasLongCertificate (Some (Value file order_file)) w = ⊥
+HasLongCertificate (Some (Solve format file nodes cert)) w = ⊥
+HasLongCertificate (Some (Value format file order_file)) w = ⊥
 HasLongCertificate (Some (Gen seed n)) w = ⊥
-HasLongCertificate (Some (Check file cert)) w = (C : Matrix) × IsChecked file cert w C too_long
+HasLongCertificate (Some (Check format file cert)) w = (input : Instance) × IsChecked format file cert w input too_long
 
 -- the file of `value` is accepted, and the order is refused for this
 abbrev pub HasRefusedOrder : Option Command → World → OrderFileRefusal → Type 0
 HasRefusedOrder None w refusal = ⊥
-HasRefusedOrder (Some (Solve file nodes cert)) w refusal = ⊥
-HasRefusedOrder (Some (Check file cert)) w refusal = ⊥
+HasRefusedOrder (Some (Solve format file nodes cert)) w refusal = ⊥
+HasRefusedOrder (Some (Check format file cert)) w refusal = ⊥
 HasRefusedOrder (Some (Gen seed n)) w refusal = ⊥
-HasRefusedOrder (Some (Value file order_file)) w refusal = IsRefusedOrder file order_file w refusal
+HasRefusedOrder (Some (Value format file order_file)) w refusal = IsRefusedOrder format file order_file w refusal
 
 -- an input of the command is refused with this line
 abbrev pub Refuses : Option Command → World → Refusal → Type 0
@@ -357,10 +366,10 @@ EndsBy too_long status = (status ≡ 3) ⊎ (status ≡ 5)
 -- accepted inputs and no fault leave no other end
 abbrev pub IsComplete : Option Command → World → ℕ → ℕ → ℕ → Type 0
 IsComplete None w before now status = ⊤
-IsComplete (Some (Solve file nodes cert)) w before now status =
-    (C : Matrix) → input_named w.files file ≡ Some (Ok C) → ¬ (Rose before now) → (status ≡ 0) ⊎ (status ≡ 6) ⊎ (status ≡ 5)
-IsComplete (Some (Check file cert)) w before now status =
-    (C : Matrix) (bytes : List ℕ) → input_named w.files file ≡ Some (Ok C) → file_named w.files cert ≡ Some bytes → ¬ (Rose before now) → EndsBy (check_answer C bytes) status
-IsComplete (Some (Value file order_file)) w before now status =
-    (C : Matrix) (order : List ℕ) → input_named w.files file ≡ Some (Ok C) → order_named C.size w.files order_file ≡ Some (Ok order) → ¬ (Rose before now) → (status ≡ 0) ⊎ (status ≡ 5)
+IsComplete (Some (Solve format file nodes cert)) w before now status =
+    (input : Instance) → input_named format w.files file ≡ Some (Ok input) → ¬ (Rose before now) → (status ≡ 0) ⊎ (status ≡ 6) ⊎ (status ≡ 5)
+IsComplete (Some (Check format file cert)) w before now status =
+    (input : Instance) (bytes : List ℕ) → input_named format w.files file ≡ Some (Ok input) → file_named w.files cert ≡ Some bytes → ¬ (Rose before now) → EndsBy (check_answer input.weights bytes) status
+IsComplete (Some (Value format file order_file)) w before now status =
+    (input : Instance) (order : List ℕ) → input_named format w.files file ≡ Some (Ok input) → order_named input.weights.size w.files order_file ≡ Some (Ok order) → ¬ (Rose before now) → (status ≡ 0) ⊎ (status ≡ 5)
 IsComplete (Some (Gen seed n)) w before now status = ¬ (Rose before now) → (status ≡ 0) ⊎ (status ≡ 6) ⊎ (status ≡ 5)

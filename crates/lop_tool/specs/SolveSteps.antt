@@ -1,14 +1,14 @@
 -- What the steps of `solve` come to.
 use Rattle.std.specs.Prelude.{◌≡◌, ℕ}
-use Rattle.lop_model.specs.Matrix.{Matrix}
+use Rattle.lop_tool.specs.declared.input.Instance.{Instance}
 use Rattle.lop_tool.specs.declared.reply.Reply.{Reply}
 use Rattle.lop_tool.specs.declared.reply.Reply.TheVariants.{Refused, Solved, Checked, Valued, Generated}
-use Rattle.lop_tool.specs.Reply.{IsSolved}
+use Rattle.lop_tool.specs.Reply.{IsSolved, instance_of}
 
--- the reply is a search of these weights with this budget
-abbrev pub SolvesWeights : Matrix → ℕ → Reply → Type 0
-SolvesWeights C nodes (Solved core) = (core.problem.weights ≡ C) × IsSolved nodes core
-SolvesWeights C nodes (Refused refusal) = ⊥
-SolvesWeights C nodes (Checked x) = ⊥
-SolvesWeights C nodes (Valued x) = ⊥
-SolvesWeights C nodes (Generated x) = ⊥
+-- the reply is a search of the instance's weights with this budget
+abbrev pub SolvesInstance : Instance → ℕ → Reply → Type 0
+SolvesInstance input nodes (Solved x) = (instance_of x ≡ input) × IsSolved nodes x.core
+SolvesInstance input nodes (Refused refusal) = ⊥
+SolvesInstance input nodes (Checked x) = ⊥
+SolvesInstance input nodes (Valued x) = ⊥
+SolvesInstance input nodes (Generated x) = ⊥

@@ -1,7 +1,7 @@
 // A file is solved, and its certificate checked.
 ghost use Rattle.std.specs.Prelude.{◌≤◌, map};
 ghost use Rattle.std.specs.String.{string_bytes};
-ghost use Rattle.lop_tool.specs.Command.{command_of};
+ghost use Rattle.lop_words.specs.Command.{command_of};
 ghost use Rattle.lop_tool.specs.Both.{BothEnded, Agree};
 
 use crate::top::run;

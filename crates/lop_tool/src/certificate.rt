@@ -7,10 +7,10 @@ ghost use Rattle.lop_tool.specs.Keeping.{HasBegunNamed, WritesCertificate};
 ghost use Rattle.lop_tool.specs.Stops.{FaultCause};
 
 use crate::reply::Stop;
-use crate::words::NameWord;
 use lop_certwrite::write_certificate;
 use lop_core::Core;
 use lop_desk::{Desk, DeskFailed, OpenFault, TextRoom};
+use lop_words::NameWord;
 
 /// Begins the file under the name, if there is one.
 pub fn begin_certificate<D: Desk>(cert: &Option<NameWord>, desk: &mut D) -> Result<(), Stop>

@@ -7,8 +7,8 @@ ghost use Rattle.lop_tool.specs.Keeping.{Keeps, Delivered, IsBegun};
 
 use crate::certificate::leave_certificate;
 use crate::reply::{Reply, print_reply};
-use crate::words::Command;
 use lop_desk::{Desk, DeskFailed, TextRoom};
+use lop_words::Command;
 
 /// Leaves the certificate that the command asks for in the file that was begun, prints the reply, and gives the status.
 pub fn deliver<D: Desk>(reply: &Reply, command: &Command, desk: &mut D, room: &mut TextRoom) -> u8
@@ -38,7 +38,7 @@ fn keep<D: Desk>(
 {
     match command {
         Command::Solve { cert: Some(_), .. } => match reply {
-            Reply::Solved(core) => leave_certificate(core, desk, room),
+            Reply::Solved(x) => leave_certificate(&x.core, desk, room),
             Reply::Refused(_) | Reply::Checked(_) | Reply::Valued(_) | Reply::Generated(_) => Ok(
                 (),
             ),

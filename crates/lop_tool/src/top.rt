@@ -2,7 +2,7 @@
 ghost use Rattle.std.specs.Prelude.{◌≡◌, ◌≤◌, None, Some, map, IfSome, IfOk, IfErr};
 ghost use Rattle.std.specs.String.{string_bytes};
 ghost use Rattle.lop_tool.specs.declared.reply.Refusal.TheVariants.{Words};
-ghost use Rattle.lop_tool.specs.Command.{command_of, HasBudget};
+ghost use Rattle.lop_words.specs.Command.{command_of, IsWithinLimits};
 ghost use Rattle.lop_tool.specs.Reply.{refusal_line, IsPrintable};
 ghost use Rattle.lop_tool.specs.Run.{settled, cert_name, AnswersCommand, StopCause, Ended, Faulted, ExactlyWhere, SolvesFile, AcceptsCertificate, WeighsOrder, GeneratesWeights, IsRejected, PrintsRejection, IsRefused, PrintsRefusal, PrintsOnly, LeavesAtMost, LeavesAll, IsComplete};
 ghost use Rattle.lop_tool.specs.Keeping.{IsBegun};
@@ -13,8 +13,8 @@ use crate::generation::generated;
 use crate::reply::{Refusal, Reply, Stop, print_reply};
 use crate::solve::solve;
 use crate::weighing::weigh;
-use crate::words::{Command, WordsFault, read_words};
 use lop_desk::{Desk, TextRoom};
+use lop_words::{Command, WordsFault, read_words};
 use std::alloc::Global;
 
 /// Does what the words after the program's name ask for, prints the answer and gives the status: 0 done, with value and
@@ -105,7 +105,7 @@ fn refuse_words<D: Desk>(desk: &mut D, room: &mut TextRoom) -> u8
 
 // The reply is decided, and then delivered.
 fn answer<D: Desk>(alloc: Global, command: &Command, desk: &mut D, room: &mut TextRoom) -> u8
-    requires { HasBudget command.now }
+    requires { IsWithinLimits command.now }
     ensures later { D.faults desk.old ≤ D.faults desk.new }
     ensures ended { Ended (Some command.now) (D.told desk.old) (D.told desk.new) (D.faults desk.old) (D.faults desk.new) result }
 {
@@ -118,7 +118,7 @@ fn answer<D: Desk>(alloc: Global, command: &Command, desk: &mut D, room: &mut Te
 
 // The reply to this command over the files of this desk.
 fn decide<D: Desk>(alloc: Global, command: &Command, desk: &mut D) -> Result<Reply, Stop>
-    requires { HasBudget command.now }
+    requires { IsWithinLimits command.now }
     ensures world { settled (D.told desk.new) ≡ settled (D.told desk.old) }
     ensures later { D.faults desk.old ≤ D.faults desk.new }
     ensures reply { IfOk result (AnswersCommand command.now (D.told desk.old)) }
@@ -127,9 +127,20 @@ fn decide<D: Desk>(alloc: Global, command: &Command, desk: &mut D) -> Result<Rep
     ensures stop { IfErr result (StopCause (Some command.now) (D.told desk.old) (D.faults desk.old) (D.faults desk.new)) }
 {
     match command {
-        Command::Solve { file, nodes, cert } => solve(alloc, file.text(), *nodes, cert, desk),
-        Command::Check { file, cert } => check(alloc, file.text(), cert.text(), desk),
-        Command::Value { file, order_file } => weigh(alloc, file.text(), order_file.text(), desk),
+        Command::Solve {
+            format,
+            file,
+            nodes,
+            cert,
+        } => solve(alloc, *format, file.text(), *nodes, cert, desk),
+        Command::Check { format, file, cert } => {
+            check(alloc, *format, file.text(), cert.text(), desk)
+        }
+        Command::Value {
+            format,
+            file,
+            order_file,
+        } => weigh(alloc, *format, file.text(), order_file.text(), desk),
         Command::Gen { seed, n } => generated(alloc, *seed, *n),
     }
 }

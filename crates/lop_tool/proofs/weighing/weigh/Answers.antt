@@ -2,4 +2,4 @@ use Rattle.lop_tool.proofs.ValueLemmas.{answers_value}
 use Rattle.lop_tool.proofs.weighing.weigh.Goals as goal
 
 pub returns-in-Ok-Ok-clause-reply : goal.returns-in-Ok-Ok-clause-reply
-returns-in-Ok-Ok-clause-reply g c = answers_value _ _ _ _ (g.D.Desk.told c.read_input.new.desk) _ c.read_input.ensures.world (rw c.in-Ok-Ok.field-0-is at c.in-Ok-Ok.ensures.input) c.weigh_order.ensures.reply
+returns-in-Ok-Ok-clause-reply g c = answers_value _ _ _ _ _ (g.D.Desk.told c.read_input.new.desk) _ c.read_input.ensures.world (rw c.in-Ok-Ok.field-0-is at c.in-Ok-Ok.ensures.input) c.weigh_order.ensures.reply

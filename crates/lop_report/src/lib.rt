@@ -1,0 +1,14 @@
+//! The lines of an answer.
+#![tactic(auto)]
+
+mod answer;
+mod degree;
+mod figures;
+mod lines;
+mod ranks;
+#[cfg(test)]
+mod tests;
+
+pub use answer::{Answer, print_accepted, print_answer, print_generated, print_value};
+pub use degree::Linearity;
+pub use figures::{disagreements, linearity};

@@ -1,0 +1,143 @@
+// Single lines, each printed by one `print_all`.
+ghost use Rattle.std.specs.Prelude.{◌≡◌, ◌≤◌, ◌<◌, ◌+◌, ◌*◌, ◌^◌, ◌++◌, length, pos, ◌≤ℤ◌};
+ghost use Rattle.std.specs.List.{flat_map};
+ghost use Rattle.lop_desk.specs.Whole.{PrintsAll};
+ghost use Rattle.lop_desk.specs.Causes.{HasCause};
+ghost use Rattle.lop_report.specs.Lines.{number_line, order_line, object_word, status_line, check_status_line, linearity_line, linearity_text};
+ghost use Rattle.lop_report.specs.declared.degree.Linearity.TheVariants.{Parts};
+
+use crate::degree::Linearity;
+use crate::figures::{four_digits, linearity};
+use itoa::Buffer;
+use lop_desk::{Desk, DeskFailed, TextRoom, print_all};
+use lop_model::Order;
+
+/// Prints a line of a word with its blank, and a count.
+pub fn print_count<D: Desk>(
+    word: &[u8],
+    count: u64,
+    desk: &mut D,
+    room: &mut TextRoom,
+) -> Result<(), DeskFailed>
+    requires { length word.now ≤ 64 }
+    ensures effect { PrintsAll (D.told desk.old) (D.told desk.new) (number_line word.now (pos count)) result }
+    ensures cause { HasCause (D.faults desk.old) (D.faults desk.new) result }
+{
+    room.clear();
+    room.put(word);
+    room.put(Buffer::new().format(count).as_bytes());
+    room.put(b"\n");
+    print_all(desk, room.bytes())
+}
+
+/// Prints a line of a word with its blank, and a number.
+pub fn print_number<D: Desk>(
+    word: &[u8],
+    number: i128,
+    desk: &mut D,
+    room: &mut TextRoom,
+) -> Result<(), DeskFailed>
+    requires { length word.now ≤ 64 }
+    ensures effect { PrintsAll (D.told desk.old) (D.told desk.new) (number_line word.now number) result }
+    ensures cause { HasCause (D.faults desk.old) (D.faults desk.new) result }
+{
+    room.clear();
+    room.put(word);
+    room.put(Buffer::new().format(number).as_bytes());
+    room.put(b"\n");
+    print_all(desk, room.bytes())
+}
+
+/// Prints the objects in order. O(n).
+pub fn print_order<D: Desk>(
+    order: &Order,
+    desk: &mut D,
+    room: &mut TextRoom,
+) -> Result<(), DeskFailed>
+    requires { length order.now ≤ 512 }
+    ensures effect { PrintsAll (D.told desk.old) (D.told desk.new) (order_line order.now) result }
+    ensures cause { HasCause (D.faults desk.old) (D.faults desk.new) result }
+{
+    room.clear();
+    room.put(b"order");
+    put_objects(order, room);
+    room.put(b"\n");
+    print_all(desk, room.bytes())
+}
+
+fn put_objects(order: &Order, room: &mut TextRoom)
+    requires order { length order.now ≤ 512 }
+    requires room { length room.old ≤ 64 }
+    ensures text { room.new ≡ room.old ++ flat_map object_word order.now }
+    ensures short { length room.new ≤ length room.old + 6 * 512 }
+{
+    for place in 0..order.n() {
+        put_object(order.at(place), room);
+    }
+}
+
+/// Appends an object with a blank before it. Objects count from 1 in every text.
+pub fn put_object(object: u16, room: &mut TextRoom)
+    requires object { object < 512 }
+    requires room { length room.old ≤ 65536 }
+    ensures text { room.new ≡ room.old ++ object_word object }
+    ensures short { length room.new ≤ length room.old + 6 }
+{
+    room.put(b" ");
+    room.put(Buffer::new().format(object + 1).as_bytes());
+}
+
+/// Prints how a search ended.
+pub fn print_status<D: Desk>(value: i128, bound: i128, desk: &mut D) -> Result<(), DeskFailed>
+    ensures effect { PrintsAll (D.told desk.old) (D.told desk.new) (status_line value bound) result }
+    ensures cause { HasCause (D.faults desk.old) (D.faults desk.new) result }
+{
+    if value == bound {
+        print_all(desk, b"status optimal\n")
+    } else {
+        print_all(desk, b"status spent\n")
+    }
+}
+
+/// Prints what a certificate shows of its value.
+pub fn print_check_status<D: Desk>(value: i128, bound: i128, desk: &mut D) -> Result<(), DeskFailed>
+    ensures effect { PrintsAll (D.told desk.old) (D.told desk.new) (check_status_line value bound) result }
+    ensures cause { HasCause (D.faults desk.old) (D.faults desk.new) result }
+{
+    if value == bound {
+        print_all(desk, b"status optimal\n")
+    } else {
+        print_all(desk, b"status bounded\n")
+    }
+}
+
+/// Prints the degree of linearity.
+pub fn print_linearity<D: Desk>(
+    value: i128,
+    total: i128,
+    desk: &mut D,
+    room: &mut TextRoom,
+) -> Result<(), DeskFailed>
+    requires { value ≤ℤ pos (2 ^ 63) }
+    ensures effect { PrintsAll (D.told desk.old) (D.told desk.new) (linearity_line value total) result }
+    ensures cause { HasCause (D.faults desk.old) (D.faults desk.new) result }
+{
+    room.clear();
+    room.put(b"linearity ");
+    match linearity(value, total) {
+        Linearity::Parts(parts) => put_parts(parts, room),
+        Linearity::None => room.put(b"none"),
+    }
+    room.put(b"\n");
+    print_all(desk, room.bytes())
+}
+
+fn put_parts(parts: u128, room: &mut TextRoom)
+    requires { length room.old ≤ 65536 }
+    ensures text { room.new ≡ room.old ++ linearity_text (Parts parts) }
+    ensures short { length room.new ≤ length room.old + 64 }
+{
+    room.put(Buffer::new().format(parts / 10_000).as_bytes());
+    room.put(b".");
+    room.put(&four_digits((parts % 10_000) as u16));
+}

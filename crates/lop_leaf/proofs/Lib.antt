@@ -2,6 +2,7 @@ pub mod CellLemmas
 pub mod ChargeLemmas
 pub mod MarginLemmas
 pub mod PackingLemmas
+pub mod SpentLemmas
 pub mod PackingValue
 pub mod FallLemmas
 pub mod QuotientLemmas

@@ -10,8 +10,8 @@ use Rattle.lop_cuts.specs.Arcs.{cycle_arcs}
 use Rattle.lop_cuts.specs.Kind.{arcs_of}
 use Rattle.lop_cuts.specs.Lagrangian.{Term, charge, reduced_entry}
 use Rattle.lop_fix.specs.PartialOrder.{IsPartialOrder}
-use Rattle.lop_leaf.specs.Packing.{positive_part, margin, lesser, margin_number, cycle_margin, dicycle, pack_cycle}
-use Rattle.lop_leaf.specs.Table.{IsMarginWord, lowered, AreThree}
+use Rattle.lop_leaf.specs.Packing.{positive_part, margin, lesser, margin_number, cycle_margin, dicycle, pack_cycle, AreThree}
+use Rattle.lop_leaf.specs.Table.{IsMarginWord, lowered}
 
 -- ---- positive parts
 

@@ -17,8 +17,8 @@ use Rattle.lop_cuts.specs.declared.kind.CutKind.TheVariants.{Dicycle}
 use Rattle.lop_cuts.specs.Lagrangian.{Term, reduced_entry}
 use Rattle.lop_fix.specs.PartialOrder.{FixedPairs, IsPartialOrder}
 use Rattle.lop_leaf.specs.Record.{ScaledTerms}
-use Rattle.lop_leaf.specs.Packing.{positive_part, margin, lesser, margin_number, cycle_margin, IsExhausted, dicycle, in_turn}
-use Rattle.lop_leaf.specs.Table.{cell, IsMarginWord, lowered, HasMargins, IsSpent, IsPacking, AreThree}
+use Rattle.lop_leaf.specs.Packing.{positive_part, margin, lesser, margin_number, cycle_margin, IsExhausted, AreThree, dicycle, in_turn}
+use Rattle.lop_leaf.specs.Table.{cell, IsMarginWord, lowered, HasMargins, IsSpentCycle, IsSpent, IsPacking}
 use Rattle.lop_leaf.proofs.CellLemmas.{read-set}
 use Rattle.lop_leaf.proofs.ChargeLemmas.{entries_within}
 use Rattle.lop_leaf.proofs.MarginLemmas.{margin_of, word_step, least_word, limited, lowered-zero, lowered-limited, arc_cases, one_way, reduced-dicycle}
@@ -174,33 +174,26 @@ is_arc a b c x y (inl e) = let k = e.0 in let l = e.1 in grind (arith, nat_tests
 is_arc a b c x y (inr (inl e)) = let k = e.0 in let l = e.1 in grind (arith, nat_tests)
 is_arc a b c x y (inr (inr e)) = let k = e.0 in let l = e.1 in grind (arith, nat_tests)
 
-which_least : (x y z : ℕ) → (min x (min y z) ≡ x) ⊎ ((min x (min y z) ≡ y) ⊎ (min x (min y z) ≡ z))
+pub which_least : (x y z : ℕ) → (min x (min y z) ≡ x) ⊎ ((min x (min y z) ≡ y) ⊎ (min x (min y z) ≡ z))
 which_least x y z = elim (cases_lt x y) [
   | inl xy ↦ elim (cases_lt x z) [ inl xz ↦ inl (omega arith) | inr zx ↦ inr (inr (omega arith)) ]
   | inr yx ↦ elim (cases_lt y z) [ inl yz ↦ inr (inl (omega arith)) | inr zy ↦ inr (inr (omega arith)) ]
 ]
 
 -- the cycle that was taken is spent
-pub spent_new : (n : ℕ) (t u : List ℕ) (a b c m : ℕ) → AreThree n a b c → m ≡ min (cell t n a b) (min (cell t n b c) (cell t n c a)) → m < 2 ^ 63
+pub spent_cycle : (n : ℕ) (t u : List ℕ) (a b c m : ℕ) → AreThree n a b c → m ≡ min (cell t n a b) (min (cell t n b c) (cell t n c a)) → m < 2 ^ 63
     → ((x y : ℕ) → y < n → cell u n x y ≡ cond (has_pair (cycle_arcs (a ∷ b ∷ c ∷ [])) x y) (lowered (cell t n x y) m) (cell t n x y))
-    → IsSpent n u (Dicycle (a ∷ b ∷ c ∷ []))
-spent_new n t u a b c m three e l each =
+    → IsSpentCycle n u a b c
+spent_cycle n t u a b c m three e l each =
     let gone : (x y : ℕ) → y < n → has_pair (cycle_arcs (a ∷ b ∷ c ∷ [])) x y ≡ true → m ≡ cell t n x y → cell u n x y ≡ 0 = λ x y ly on f.
     each x y ly ∙ taken (has_pair (cycle_arcs (a ∷ b ∷ c ∷ [])) x y) (cell t n x y) m on f l in
-    record {
-      a = a;
-      b = b;
-      c = c;
-      is = refl;
-      three = three;
-      none_left = elim (which_least (cell t n a b) (cell t n b c) (cell t n c a)) [
-        | inl f ↦ inl (gone a b three.second (is_arc a b c a b (inl (refl, refl))) (e ∙ f))
-        | inr rest ↦ elim rest [
-          | inl f ↦ inr (inl (gone b c three.third (is_arc a b c b c (inr (inl (refl, refl)))) (e ∙ f)))
-          | inr f ↦ inr (inr (gone c a three.first (is_arc a b c c a (inr (inr (refl, refl)))) (e ∙ f)))
-        ]
-      ];
-    }
+    elim (which_least (cell t n a b) (cell t n b c) (cell t n c a)) [
+      | inl f ↦ inl (gone a b three.second (is_arc a b c a b (inl (refl, refl))) (e ∙ f))
+      | inr rest ↦ elim rest [
+        | inl f ↦ inr (inl (gone b c three.third (is_arc a b c b c (inr (inl (refl, refl)))) (e ∙ f)))
+        | inr f ↦ inr (inr (gone c a three.first (is_arc a b c c a (inr (inr (refl, refl)))) (e ∙ f)))
+      ]
+    ]
   where
     taken : (p : Bool) (w m : ℕ) → p ≡ true → m ≡ w → m < 2 ^ 63 → cond p (lowered w m) w ≡ 0
     taken true w m on f l = lowered-limited w m (omega (arith, f)) ∙ omega (arith, f)
@@ -210,11 +203,12 @@ pub packing_step : (C : Matrix) (G : List Pair) (r s : ScaledTerms) (t u : List 
     → ((x y : ℕ) → y < C.size → cell u C.size x y ≡ cond (has_pair (cycle_arcs (a ∷ b ∷ c ∷ [])) x y) (lowered (cell t C.size x y) m) (cell t C.size x y))
     → FitsCut C.size (Dicycle (a ∷ b ∷ c ∷ [])) → s ≡ record { scale = r.scale; terms = r.terms ++ dicycle a b c m ∷ [] } → IsPacking C G s u
 packing_step C G r s t u a b c m three packing e z l same each fits is =
+    let spent : IsSpent C.size u (Dicycle (a ∷ b ∷ c ∷ [])) = record { a = a; b = b; c = c; is = refl; three = three; none_left = spent_cycle C.size t u a b c m three e l each } in
     subst (λ (k : ScaledTerms). IsPacking C G k u) (sym is) (record {
       scale = packing.scale;
       fit = All-push (λ k. FitsCut C.size k.cut) r.terms (dicycle a b c m) packing.fit fits;
       margins = margins_step C G r.terms t u a b c m three packing.margins z (omega (arith, e)) (omega (arith, e)) (omega (arith, e)) same each;
-      spent = All-push (λ k. IsSpent C.size u k.cut) r.terms (dicycle a b c m) (λ k d n. spent_step C.size t u a b c m (get_or r.terms k d).cut each (packing.spent k d n)) (spent_new C.size t u a b c m three e l each);
+      spent = All-push (λ k. IsSpent C.size u k.cut) r.terms (dicycle a b c m) (λ k d n. spent_step C.size t u a b c m (get_or r.terms k d).cut each (packing.spent k d n)) spent;
     })
 
 -- ---- steps in turn
@@ -224,6 +218,12 @@ in_turn_more a k step x l =
     let count : k + 1 - a ≡ suc (k - a) = omega arith in
     let place : a + (k - a) ≡ k = omega arith in
     ap (λ j. in_turn a j step x) count ∙ ap (λ j. step j (in_turn a (k - a) step x)) place
+
+pub in_turn_next : {X : Type 0} (k : ℕ) (step : ℕ → X → X) (x : X) → in_turn 0 (k + 1) step x ≡ step k (in_turn 0 k step x)
+in_turn_next k step x =
+    let count : k + 1 ≡ suc k = omega arith in
+    let place : 0 + k ≡ k = omega arith in
+    ap (λ j. in_turn 0 j step x) count ∙ ap (λ j. step j (in_turn 0 k step x)) place
 
 -- ---- what is left in the end
 
@@ -253,23 +253,22 @@ least_zero A B D (inr (inr e)) = rw e (third A B)
     third (Some a) (Some d) = omega arith
 
 -- a cycle that is spent in the table has taken all that it can
-pub exhausted : (C : Matrix) (G : List Pair) (terms : List Term) (t : List ℕ) (cut : CutKind) → HasMargins C G terms t → IsSpent C.size t cut → IsExhausted G (reduced_entry C 1 terms) cut
-exhausted C G terms t cut has is =
+pub exhausted_cycle : (C : Matrix) (G : List Pair) (terms : List Term) (t : List ℕ) (a b c : ℕ) → HasMargins C G terms t → AreThree C.size a b c → IsSpentCycle C.size t a b c → cycle_margin G (reduced_entry C 1 terms) a b c ≡ 0
+exhausted_cycle C G terms t a b c has three spent =
     let r : ℕ → ℕ → ℤ = reduced_entry C 1 terms in
-    let a = is.a in
-    let b = is.b in
-    let c = is.c in
-    let three = is.three in
-    record {
-      a = a;
-      b = b;
-      c = c;
-      is = is.is;
-      none_left = least_zero (margin G r a b) (margin G r b c) (margin G r c a) (elim is.none_left [
-        | inl e ↦ inl (zero_word (margin G r a b) (cell t C.size a b) (has.each a b three.first three.second three.first_second) e)
-        | inr rest ↦ elim rest [
-          | inl e ↦ inr (inl (zero_word (margin G r b c) (cell t C.size b c) (has.each b c three.second three.third three.second_third) e))
-          | inr e ↦ inr (inr (zero_word (margin G r c a) (cell t C.size c a) (has.each c a three.third three.first (λ f. three.first_third (sym f))) e))
-        ]
-      ]);
-    }
+    least_zero (margin G r a b) (margin G r b c) (margin G r c a) (elim spent [
+      | inl e ↦ inl (zero_word (margin G r a b) (cell t C.size a b) (has.each a b three.first three.second three.first_second) e)
+      | inr rest ↦ elim rest [
+        | inl e ↦ inr (inl (zero_word (margin G r b c) (cell t C.size b c) (has.each b c three.second three.third three.second_third) e))
+        | inr e ↦ inr (inr (zero_word (margin G r c a) (cell t C.size c a) (has.each c a three.third three.first (λ f. three.first_third (sym f))) e))
+      ]
+    ])
+
+pub exhausted : (C : Matrix) (G : List Pair) (terms : List Term) (t : List ℕ) (cut : CutKind) → HasMargins C G terms t → IsSpent C.size t cut → IsExhausted G (reduced_entry C 1 terms) cut
+exhausted C G terms t cut has is = record {
+  a = is.a;
+  b = is.b;
+  c = is.c;
+  is = is.is;
+  none_left = exhausted_cycle C G terms t is.a is.b is.c has is.three is.none_left;
+}

@@ -17,8 +17,7 @@ use Rattle.lop_cuts.specs.Arcs.{cycle_arcs}
 use Rattle.lop_cuts.specs.Kind.{right_side_of}
 use Rattle.lop_cuts.specs.Lagrangian.{Term, right_sides, reduced_entry, lagrangian_value}
 use Rattle.lop_cuts.proofs.LagrangianLemmas.{lagrangian_value-plain}
-use Rattle.lop_leaf.specs.Packing.{positive_part, margin, lesser, margin_number, cycle_margin, dicycle, pack_cycle, pack_triple, pack_pair, pack_object, packed_terms, packing_bound, in_turn}
-use Rattle.lop_leaf.specs.Table.{AreThree}
+use Rattle.lop_leaf.specs.Packing.{positive_part, margin, lesser, margin_number, cycle_margin, dicycle, pack_cycle, pack_triple, pack_pair, pack_object, packed_terms, packing_bound, in_turn, AreThree}
 use Rattle.lop_leaf.proofs.MarginLemmas.{part-positive, margin_of, arc_cases, one_way, reduced-dicycle}
 
 -- ---- margins of at least m

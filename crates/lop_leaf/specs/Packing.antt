@@ -1,5 +1,5 @@
 -- The packing bound: 3-dicycles with multipliers, taken greedily in lexicographic order. It is a list of steps, and a yardstick.
-use Rattle.std.specs.Prelude.{◌≡◌, ℕ, zero, suc, ◌+◌, ◌-◌, List, [], ◌∷◌, ◌++◌, length, sum_by, nat_lt, ◌&&◌, Option, Some, None, ℤ, pos, negsuc, ◌-ℤ◌, if◌then◌else◌, min}
+use Rattle.std.specs.Prelude.{◌≡◌, ◌≢◌, ◌⊎◌, ℕ, zero, suc, ◌+◌, ◌-◌, List, [], ◌∷◌, ◌++◌, length, sum_by, ◌<◌, nat_lt, ◌&&◌, Option, Some, None, ℤ, pos, negsuc, ◌-ℤ◌, if◌then◌else◌, min}
 use Rattle.lop_model.specs.declared.pair.Pair.{Pair}
 use Rattle.lop_model.specs.Matrix.{Matrix}
 use Rattle.lop_model.specs.Fixings.{has_pair}
@@ -37,6 +37,15 @@ cycle_margin G r a b c = margin_number (lesser (margin G r a b) (lesser (margin 
 abbrev pub dicycle : ℕ → ℕ → ℕ → ℕ → Term
 dicycle a b c m = record { cut = Dicycle (a ∷ b ∷ c ∷ []); multiplier = m }
 
+-- three different objects below n
+pub record AreThree (n a b c : ℕ) : Type 0 where
+  pub first : a < n
+  pub second : b < n
+  pub third : c < n
+  pub first_second : a ≢ b
+  pub second_third : b ≢ c
+  pub first_third : a ≢ c
+
 -- the cut is a dicycle that has taken all that it can: its least margin is 0
 pub record IsExhausted (G : List Pair) (r : ℕ → ℕ → ℤ) (cut : CutKind) : Type 0 where
   pub a : ℕ
@@ -44,6 +53,10 @@ pub record IsExhausted (G : List Pair) (r : ℕ → ℕ → ℤ) (cut : CutKind)
   pub c : ℕ
   pub is : cut ≡ Dicycle (a ∷ b ∷ c ∷ [])
   pub none_left : cycle_margin G r a b c ≡ 0
+
+-- no dicycle keeps three positive margins in what the terms leave, unless they are all the 4,096 that there may be
+abbrev pub AreExhausted : Matrix → List Pair → List Term → Type 0
+AreExhausted C G terms = (length terms ≡ 4096) ⊎ ((a b c : ℕ) → AreThree C.size a b c → cycle_margin G (reduced_entry C 1 terms) a b c ≡ 0)
 
 -- the terms after the cycle a, b, c: where its least margin in the reduced entries is positive, it is the cycle's multiplier. There are at most 4,096 terms
 abbrev pub pack_cycle : Matrix → List Pair → ℕ → ℕ → ℕ → List Term → List Term

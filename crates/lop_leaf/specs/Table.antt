@@ -1,5 +1,5 @@
 -- Tables of n rows of n numbers that lie one after another.
-use Rattle.std.specs.Prelude.{◌≡◌, ◌≢◌, ◌⊎◌, ℕ, ◌+◌, ◌-◌, ◌*◌, ◌<◌, ◌^◌, ◌==◌, List, [], ◌∷◌, length, count_by, All, slice_index, Option, Some, None, if◌then◌else◌}
+use Rattle.std.specs.Prelude.{◌≡◌, ◌≢◌, ◌⊎◌, ℕ, ◌+◌, ◌-◌, ◌*◌, ◌<◌, ◌≤◌, ◌^◌, ◌==◌, List, [], ◌∷◌, length, count_by, All, slice_index, Option, Some, None, if◌then◌else◌}
 use Rattle.lop_model.specs.declared.pair.Pair.{Pair}
 use Rattle.lop_model.specs.Matrix.{Matrix}
 use Rattle.lop_cuts.specs.Arcs.{arc, same_arc}
@@ -7,7 +7,7 @@ use Rattle.lop_cuts.specs.declared.kind.CutKind.{CutKind}
 use Rattle.lop_cuts.specs.declared.kind.CutKind.TheVariants.{Dicycle}
 use Rattle.lop_cuts.specs.Lagrangian.{Term, charge, reduced_entry}
 use Rattle.lop_leaf.specs.Record.{ScaledTerms, FitTerms}
-use Rattle.lop_leaf.specs.Packing.{margin}
+use Rattle.lop_leaf.specs.Packing.{margin, AreThree}
 
 -- the number in row a and column b
 abbrev pub cell : List ℕ → ℕ → ℕ → ℕ → ℕ
@@ -36,14 +36,9 @@ pub record HasMargins (C : Matrix) (G : List Pair) (terms : List Term) (t : List
 abbrev pub lowered : ℕ → ℕ → ℕ
 lowered x m = if x == 2 ^ 64 - 1 then x else x - m
 
--- three different objects below n
-pub record AreThree (n a b c : ℕ) : Type 0 where
-  pub first : a < n
-  pub second : b < n
-  pub third : c < n
-  pub first_second : a ≢ b
-  pub second_third : b ≢ c
-  pub first_third : a ≢ c
+-- an arc of the cycle a, b, c has no margin left
+abbrev pub IsSpentCycle : ℕ → List ℕ → ℕ → ℕ → ℕ → Type 0
+IsSpentCycle n t a b c = (cell t n a b ≡ 0) ⊎ (cell t n b c ≡ 0) ⊎ (cell t n c a ≡ 0)
 
 -- the cut is a dicycle of which an arc has no margin left
 pub record IsSpent (n : ℕ) (t : List ℕ) (cut : CutKind) : Type 0 where
@@ -52,7 +47,7 @@ pub record IsSpent (n : ℕ) (t : List ℕ) (cut : CutKind) : Type 0 where
   pub c : ℕ
   pub is : cut ≡ Dicycle (a ∷ b ∷ c ∷ [])
   pub three : AreThree n a b c
-  pub none_left : (cell t n a b ≡ 0) ⊎ (cell t n b c ≡ 0) ⊎ (cell t n c a ≡ 0)
+  pub none_left : IsSpentCycle n t a b c
 
 -- what stands between two steps of packing: the margins, and terms at scale 1 whose cycles have no margin left
 pub record IsPacking (C : Matrix) (G : List Pair) (r : ScaledTerms) (t : List ℕ) : Type 0 where
@@ -60,3 +55,16 @@ pub record IsPacking (C : Matrix) (G : List Pair) (r : ScaledTerms) (t : List �
   pub fit : FitTerms C.size r.terms
   pub margins : HasMargins C G r.terms t
   pub spent : All (λ u. IsSpent C.size t u.cut) r.terms
+
+-- the cycle a, b, c has had its turn: the record is full, or an arc of the cycle has no margin left
+abbrev pub IsPassed : ℕ → ScaledTerms → List ℕ → ℕ → ℕ → ℕ → Type 0
+IsPassed n r t a b c = (4096 ≤ length r.terms) ⊎ IsSpentCycle n t a b c
+
+-- both cycles of three objects have had their turn
+abbrev pub ArePassed : ℕ → ScaledTerms → List ℕ → ℕ → ℕ → ℕ → Type 0
+ArePassed n r t i j k = IsPassed n r t i j k × IsPassed n r t i k j
+
+-- the record s and the table u come after r and t: there are no fewer terms, and a margin that was 0 is 0 still
+pub record IsLater (n : ℕ) (r : ScaledTerms) (t : List ℕ) (s : ScaledTerms) (u : List ℕ) : Type 0 where
+  pub terms : length r.terms ≤ length s.terms
+  pub none_left : (x y : ℕ) → y < n → cell t n x y ≡ 0 → cell u n x y ≡ 0

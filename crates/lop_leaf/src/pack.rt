@@ -7,8 +7,8 @@ ghost use Rattle.lop_cuts.specs.Arcs.{cycle_arcs};
 ghost use Rattle.lop_cuts.specs.Lagrangian.{reduced_entry};
 ghost use Rattle.lop_leaf.specs.Record.{HasCutsBelow};
 ghost use Rattle.lop_leaf.specs.Bound.{record_value};
-ghost use Rattle.lop_leaf.specs.Packing.{positive_part, margin, pack_cycle, pack_triple, pack_pair, pack_object, packed, packing_bound, IsExhausted};
-ghost use Rattle.lop_leaf.specs.Table.{cell, lowered, IsMarginWord, HasMargins, IsPacking, AreThree};
+ghost use Rattle.lop_leaf.specs.Packing.{positive_part, margin, pack_cycle, pack_triple, pack_pair, pack_object, packed, packing_bound, AreThree, IsExhausted, AreExhausted};
+ghost use Rattle.lop_leaf.specs.Table.{cell, lowered, IsMarginWord, HasMargins, IsPacking, IsPassed, ArePassed, IsLater};
 
 use crate::{LeafRecord, MAX_TERMS, PairRoom, upper};
 use lop_cuts::Cut;
@@ -155,6 +155,8 @@ fn pack_one(
     requires packing { IsPacking weights.now fixings.now.pairs rec.old table.old }
     ensures terms { rec.new.terms ≡ pack_cycle weights.now fixings.now.pairs a b c rec.old.terms }
     ensures packing { IsPacking weights.now fixings.now.pairs rec.new table.new }
+    ensures later { IsLater weights.now.size rec.old table.old rec.new table.new }
+    ensures passed { IsPassed weights.now.size rec.new table.new a b c }
 {
     prove_eq!(fixings.n(), weights.n());
     let n = weights.n();
@@ -183,6 +185,8 @@ fn pack_both(
     requires packing { IsPacking weights.now fixings.now.pairs rec.old table.old }
     ensures terms { rec.new.terms ≡ pack_triple weights.now fixings.now.pairs i j k rec.old.terms }
     ensures packing { IsPacking weights.now fixings.now.pairs rec.new table.new }
+    ensures later { IsLater weights.now.size rec.old table.old rec.new table.new }
+    ensures passed { ArePassed weights.now.size rec.new table.new i j k }
 {
     pack_one(weights, fixings, table, rec, i, j, k);
     pack_one(weights, fixings, table, rec, i, k, j);
@@ -203,6 +207,8 @@ fn pack_thirds(
     requires packing { IsPacking weights.now fixings.now.pairs rec.old table.old }
     ensures terms { rec.new.terms ≡ pack_pair weights.now fixings.now.pairs i j rec.old.terms }
     ensures packing { IsPacking weights.now fixings.now.pairs rec.new table.new }
+    ensures later { IsLater weights.now.size rec.old table.old rec.new table.new }
+    ensures passed { (k : ℕ) → j < k → k < weights.now.size → ArePassed weights.now.size rec.new table.new i j k }
 {
     let n = weights.n();
     for k in j + 1..n {
@@ -223,6 +229,8 @@ fn pack_seconds(
     requires packing { IsPacking weights.now fixings.now.pairs rec.old table.old }
     ensures terms { rec.new.terms ≡ pack_object weights.now fixings.now.pairs i rec.old.terms }
     ensures packing { IsPacking weights.now fixings.now.pairs rec.new table.new }
+    ensures later { IsLater weights.now.size rec.old table.old rec.new table.new }
+    ensures passed { (j k : ℕ) → i < j → j < k → k < weights.now.size → ArePassed weights.now.size rec.new table.new i j k }
 {
     let n = weights.n();
     for j in i + 1..n {
@@ -236,6 +244,7 @@ fn pack_all(weights: &Weights, fixings: &Fixings, table: &mut [u64], rec: &mut L
     requires square { length table.old ≡ weights.now.size * weights.now.size }
     ensures packed { rec.new ≡ packed weights.now fixings.now.pairs }
     ensures packing { IsPacking weights.now fixings.now.pairs rec.new table.new }
+    ensures passed { (i j k : ℕ) → i < j → j < k → k < weights.now.size → ArePassed weights.now.size rec.new table.new i j k }
 {
     load_margins(weights, fixings, table);
     rec.clear();
@@ -260,7 +269,8 @@ pub fn packing(
     ensures cuts { HasCutsBelow weights.now.size rec.new.terms }
     ensures bounds { (s : List ℕ) → IsOrder weights.now.size s → IsLinearExtension s fixings.now.pairs → weight weights.now s ≤ℤ result }
     ensures at_most { result ≤ℤ pair_bound weights.now fixings.now.pairs }
-    ensures exhausted { All (λ t. IsExhausted fixings.now.pairs (reduced_entry weights.now 1 rec.new.terms) t.cut) rec.new.terms }
+    ensures exhausted { AreExhausted weights.now fixings.now.pairs rec.new.terms }
+    ensures packed_exhausted { All (λ t. IsExhausted fixings.now.pairs (reduced_entry weights.now 1 rec.new.terms) t.cut) rec.new.terms }
     ensures room { room.new ≡ room.old }
 {
     pack_all(weights, fixings, &mut room.margins, rec);

@@ -1,4 +1,5 @@
-use Rattle.std.proofs.Common.{◌≡◌, ℕ, ◌<◌, [], ◌∷◌, ◌++◌, cond, sym, ◌∙◌, ap, subst, arith}
+use Rattle.std.proofs.Common.{◌≡◌, ℕ, ◌+◌, ◌<◌, [], ◌∷◌, ◌++◌, cond, length, sym, ◌∙◌, ap, subst, inl, inr, arith}
+use Rattle.std.proofs.lemmas.List.{length_push}
 use Rattle.lop_cuts.specs.Arcs.{cycle_arcs}
 use Rattle.lop_cuts.specs.Kind.{FitsCut}
 use Rattle.lop_cuts.specs.declared.kind.CutKind.{CutKind}
@@ -6,7 +7,8 @@ use Rattle.lop_cuts.specs.declared.kind.CutKind.TheVariants.{Dicycle}
 use Rattle.lop_model.specs.Fixings.{has_pair}
 use Rattle.lop_leaf.specs.Table.{cell, lowered}
 use Rattle.lop_leaf.proofs.MarginLemmas.{pack_cycle-taken, pack_cycle-none, pack_cycle-full}
-use Rattle.lop_leaf.proofs.PackingLemmas.{least_is, packing_step}
+use Rattle.lop_leaf.proofs.PackingLemmas.{least_is, packing_step, spent_cycle}
+use Rattle.lop_leaf.proofs.SpentLemmas.{later_same, later_step, spent_none}
 use Rattle.lop_leaf.proofs.pack.pack_one.Goals.{else-m-gt0-via-then-m-gt0+else-len-lt-MAX_TERMS, else-m-gt0-via-else-m-gt0}
 use Rattle.lop_leaf.proofs.pack.pack_one.Goals as goal
 
@@ -54,4 +56,44 @@ returns-else-m-gt0-clause-terms c =
     elim c.else-m-gt0.branch [
       | else-m-gt0-via-then-m-gt0+else-len-lt-MAX_TERMS w ↦ sym (pack_cycle-full C c.args.fixings.now.pairs c.args.a c.args.b c.args.c terms (omega (arith, w.len.ensures.value, w.if-len-lt-MAX_TERMS.false)))
       | else-m-gt0-via-else-m-gt0 w ↦ sym (pack_cycle-none C c.args.fixings.now.pairs c.args.a c.args.b c.args.c terms (omega (arith, least.margin, w.if-m-gt0.false)))
+    ]
+
+pub returns-then-len-lt-MAX_TERMS-clause-later : goal.returns-then-len-lt-MAX_TERMS-clause-later
+returns-then-len-lt-MAX_TERMS-clause-later c =
+    let C = c.args.weights.now in
+    let m = c.least_margin-m.result in
+    let t = c.args.table.now in
+    let u = c.lower_cycle.new.table in
+    let each : (x y : ℕ) → y < C.size → cell u C.size x y ≡ cond (has_pair (cycle_arcs (c.args.a ∷ c.args.b ∷ c.args.c ∷ [])) x y) (lowered (cell t C.size x y) m) (cell t C.size x y) =
+    subst (λ (n : ℕ). (x y : ℕ) → y < n → cell u n x y ≡ cond (has_pair (cycle_arcs (c.args.a ∷ c.args.b ∷ c.args.c ∷ [])) x y) (lowered (cell t n x y) m) (cell t n x y)) c.n-n.ensures.size c.lower_cycle.ensures.each in
+    let longer : length c.put.new.self.terms ≡ length c.args.rec.now.terms + 1 = ap (λ r. length r.terms) c.put.ensures ∙ length_push c.args.rec.now.terms (record { cut = c.unwrap-cut.result; multiplier = m }) in
+    later_step C.size c.args.rec.now c.put.new.self t u c.args.a c.args.b c.args.c m (omega (arith, longer)) each
+
+pub returns-then-len-lt-MAX_TERMS-clause-passed : goal.returns-then-len-lt-MAX_TERMS-clause-passed
+returns-then-len-lt-MAX_TERMS-clause-passed c =
+    let C = c.args.weights.now in
+    let terms = c.args.rec.now.terms in
+    let m = c.least_margin-m.result in
+    let t = c.args.table.now in
+    let u = c.lower_cycle.new.table in
+    let least = least_is C c.args.fixings.now terms t c.args.a c.args.b c.args.c c.n-n.result m
+    c.n.ensures.partial_order c.requires.same_n c.requires.three c.requires.packing.margins c.n-n.ensures.size c.least_margin-m.ensures in
+    let each : (x y : ℕ) → y < C.size → cell u C.size x y ≡ cond (has_pair (cycle_arcs (c.args.a ∷ c.args.b ∷ c.args.c ∷ [])) x y) (lowered (cell t C.size x y) m) (cell t C.size x y) =
+    subst (λ (n : ℕ). (x y : ℕ) → y < n → cell u n x y ≡ cond (has_pair (cycle_arcs (c.args.a ∷ c.args.b ∷ c.args.c ∷ [])) x y) (lowered (cell t n x y) m) (cell t n x y)) c.n-n.ensures.size c.lower_cycle.ensures.each in
+    inr (spent_cycle C.size t u c.args.a c.args.b c.args.c m c.requires.three least.least least.limit each)
+
+pub returns-else-m-gt0-clause-later : goal.returns-else-m-gt0-clause-later
+returns-else-m-gt0-clause-later c = later_same c.args.weights.now.size c.args.rec.now c.args.table.now
+
+pub returns-else-m-gt0-clause-passed : goal.returns-else-m-gt0-clause-passed
+returns-else-m-gt0-clause-passed c =
+    let C = c.args.weights.now in
+    let terms = c.args.rec.now.terms in
+    let m = c.least_margin-m.result in
+    let t = c.args.table.now in
+    let least = least_is C c.args.fixings.now terms t c.args.a c.args.b c.args.c c.n-n.result m
+    c.n.ensures.partial_order c.requires.same_n c.requires.three c.requires.packing.margins c.n-n.ensures.size c.least_margin-m.ensures in
+    elim c.else-m-gt0.branch [
+      | else-m-gt0-via-then-m-gt0+else-len-lt-MAX_TERMS w ↦ inl (omega (arith, w.len.ensures.value, w.if-len-lt-MAX_TERMS.false))
+      | else-m-gt0-via-else-m-gt0 w ↦ inr (spent_none C.size t c.args.a c.args.b c.args.c (sym least.least ∙ omega (arith, w.if-m-gt0.false)))
     ]

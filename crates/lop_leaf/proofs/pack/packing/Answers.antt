@@ -4,6 +4,7 @@ use Rattle.std.proofs.lemmas.Int.{to_z-of_z}
 use Rattle.lop_leaf.specs.Record.{ScaledTerms}
 use Rattle.lop_leaf.specs.Bound.{record_value}
 use Rattle.lop_leaf.proofs.PackingLemmas.{exhausted}
+use Rattle.lop_leaf.proofs.SpentLemmas.{all_exhausted}
 use Rattle.lop_leaf.proofs.PackingValue.{packing_bound-shown, packing_bound-le}
 use Rattle.lop_leaf.proofs.pack.packing.Goals as goal
 
@@ -26,6 +27,10 @@ returns-clause-at_most c =
     rw is (packing_bound-le C G)
 
 pub returns-clause-exhausted : goal.returns-clause-exhausted
-returns-clause-exhausted c k d l =
+returns-clause-exhausted c =
+    all_exhausted c.args.weights.now c.args.fixings.now.pairs c.pack_all.new.rec c.pack_all.new.table c.upper.ensures.terms.bounded_count c.pack_all.ensures.packing.margins c.pack_all.ensures.passed
+
+pub returns-clause-packed_exhausted : goal.returns-clause-packed_exhausted
+returns-clause-packed_exhausted c k d l =
     let terms = c.pack_all.new.rec.terms in
     exhausted c.args.weights.now c.args.fixings.now.pairs terms c.pack_all.new.table (get_or terms k d).cut c.pack_all.ensures.packing.margins (c.pack_all.ensures.packing.spent k d l)

@@ -13,10 +13,11 @@ use Rattle.lop_core.specs.declared.journal.Entry.{Entry}
 use Rattle.lop_core.specs.declared.journal.Entry.TheVariants.{Take, Report}
 use Rattle.lop_core.specs.declared.node.Standing.{Standing}
 use Rattle.lop_core.specs.declared.node.Standing.TheVariants.{Idle, Out, Split}
-use Rattle.lop_core.specs.Tree.{node_at, is_out}
-use Rattle.lop_core.specs.Machine.{Problem, SearchState, after, settled, closed, divided, IsOutTo}
+use Rattle.lop_core.specs.Tree.{node_at, is_out, is_split}
+use Rattle.lop_core.specs.Machine.{Problem, SearchState, after, settled, closed, divided, IsOutTo, IsLive}
 use Rattle.lop_core.specs.Journal.{replay, MayTake, MayFollow, IsLawfulJournal}
 use Rattle.lop_core.specs.Core.{CoreFields, HasHistory}
+use Rattle.lop_core.specs.Outcome.{IsFinished}
 use Rattle.lop_core.proofs.Sound.{one_if}
 use Rattle.lop_core.proofs.Replay.{replay_push}
 use Rattle.lop_core.proofs.Fates.{Effect, IsDone, take_effect, report_effect}
@@ -155,3 +156,44 @@ evaluated_nodes core h =
     let low = evaluated_done core.problem core.journal h.lawful in
     let most = count_by-le-length (is_done (replay core.problem core.journal).best) (replay core.problem core.journal).nodes in
     subst (λ (s : SearchState). s.evaluated ≤ length s.nodes) (sym h.replayed) (omega (arith, low, most))
+
+-- ---- a budget for all nodes
+
+-- a live node isn't done where no node is out
+live_undone : (best : ℤ) (m : SearchNode) (standing : Standing) → m.standing ≡ standing → is_split m.standing ≡ false → best <ℤ m.bound → is_done best m ≡ false
+live_undone best m Idle is unsplit above = ap (is_done_as best m.bound) is ∙ not_above best m.bound above
+live_undone best m (Out w) is unsplit above = ap (is_done_as best m.bound) is
+live_undone best m (Split first) is unsplit above = let split : is_split m.standing ≡ true = ap is_split is in absurd cc
+
+module _ {X : Type 0} (p : X → Bool) where
+  -- not all pass where one doesn't
+  count_by-one : (xs : List X) (j : ℕ) (x : X) → slice_get xs j ≡ Some x → p x ≡ false → count_by p xs + 1 ≤ length xs
+  count_by-one [] j x there fails = absurd (none-some x there)
+  count_by-one (y ∷ ys) zero x there fails =
+      let same : y ≡ x = same_Some y x there in
+      let none : one_if (p y) ≡ 0 = ap (λ (v : X). one_if (p v)) same ∙ ap one_if fails in
+      omega (arith, sum_by-cons (λ (v : X). one_if (p v)) y ys, count_by-le-length p ys)
+  count_by-one (y ∷ ys) (suc j) x there fails =
+      omega (arith, sum_by-cons (λ (v : X). one_if (p v)) y ys, one_at_most (p y), count_by-one ys j x there fails)
+    where
+      one_at_most : (b : Bool) → one_if b ≤ 1
+      one_at_most true = omega arith
+      one_at_most false = omega arith
+
+-- a live node is one that wasn't evaluated
+live_more : (s : SearchState) (node : ℕ) → s.evaluated ≤ done_count s → IsLive s.nodes s.best node → s.evaluated + 1 ≤ length s.nodes
+live_more s node low live =
+    omega (arith, low, count_by-one (is_done s.best) s.nodes node live.it live.is_there (live_undone s.best live.it live.it.standing refl live.unsplit live.above))
+
+-- while a node is live, fewer were evaluated than there are
+pub evaluated_live : (core : CoreFields) (node : ℕ) → HasHistory core → IsLive core.state.nodes core.state.best node → core.state.evaluated + 1 ≤ length core.state.nodes
+evaluated_live core node h live =
+    let low = evaluated_done core.problem core.journal h.lawful in
+    live_more core.state node (subst (λ (s : SearchState). s.evaluated ≤ done_count s) (sym h.replayed) low) live
+
+-- a search that is finished with a budget for all nodes has no live node
+pub closed_within : (core : CoreFields) → HasHistory core → IsFinished core.problem core.state → length core.state.nodes ≤ core.problem.budget → (node : ℕ) → IsLive core.state.nodes core.state.best node → ⊥
+closed_within core h f enough node live = elim f.closed_or_spent [
+  | inl closed ↦ closed node live
+  | inr spent ↦ let more = evaluated_live core node h live in omega (arith, spent, enough, more)
+]

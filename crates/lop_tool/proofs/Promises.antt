@@ -1,5 +1,5 @@
 -- Each promise of a run, from how it ended.
-use Rattle.std.proofs.Common.{◌≡◌, ◌⊎◌, ℕ, ◌<◌, Bool, true, false, cond, List, Option, None, Some, IfSome, Result, Ok, Err, ℤ, inl, inr, refl, sym, ◌∙◌, ap, subst, arith}
+use Rattle.std.proofs.Common.{◌≡◌, ◌⊎◌, ℕ, ◌+◌, ◌*◌, ◌<◌, ◌≤◌, Bool, true, false, cond, List, Option, None, Some, IfSome, Result, Ok, Err, ℤ, inl, inr, refl, sym, ◌∙◌, ap, subst, arith}
 use Rattle.lop_desk.specs.World.{World, file_named, with_printed}
 use Rattle.lop_desk.specs.Causes.{Rose}
 use Rattle.lop_desk.specs.Desk.{IsMissing}
@@ -17,11 +17,13 @@ use Rattle.lop_tool.specs.declared.reply.Outcome.{Outcome}
 use Rattle.lop_tool.specs.declared.reply.Outcome.TheVariants.{Accepted, Rejected}
 use Rattle.lop_tool.specs.declared.reply.Reply.{Reply}
 use Rattle.lop_tool.specs.declared.reply.Reply.TheVariants.{Refused, Solved, Checked, Valued, Generated}
+use Rattle.lop_core.specs.AllOrders.{factorial}
 use Rattle.lop_core.specs.Machine.{state_bound}
+use Rattle.lop_tool.proofs.SearchedLemmas.{closed_status}
 use Rattle.lop_report.specs.Lines.{is_optimal}
 use Rattle.lop_tool.specs.Input.{input_named, reading_of, order_named, order_reading_of}
-use Rattle.lop_tool.specs.Reply.{generation_text, reply_status, outcome_status, outcome_text, refusal_line}
-use Rattle.lop_tool.specs.Run.{settled, Ended, replied, cut_off, faulted, lacked, Answers, Faulted, PrintsOnly, IsChecked, IsBounded, IsRejection, IsRejected, IsRefused, PrintsRejection, PrintsRefusal, answer_of, ExactlyWhere, SolvesFile, AcceptsCertificate, Accepts, EndsBy, IsComplete, Refuses, command_input, WeighsOrder, GeneratesWeights, IsWeighedOrder, IsRefusedOrder}
+use Rattle.lop_tool.specs.Reply.{instance_of, generation_text, reply_status, outcome_status, outcome_text, refusal_line}
+use Rattle.lop_tool.specs.Run.{settled, Ended, replied, cut_off, faulted, lacked, Answers, Faulted, PrintsOnly, IsChecked, IsBounded, IsRejection, IsRejected, IsRefused, PrintsRejection, PrintsRefusal, answer_of, ExactlyWhere, SolvesFile, AcceptsCertificate, Accepts, EndsBy, EndsSearch, IsComplete, Refuses, command_input, WeighsOrder, GeneratesWeights, IsWeighedOrder, IsRefusedOrder}
 
 -- ---- statuses
 
@@ -417,8 +419,13 @@ not_missing : (format : Format) (w : World) (name : List ℕ) (input : Result In
 not_missing format w name input is missing = let none : input_named format w.files name ≡ None = ap (reading_of format) missing in cc
 
 solve_ends : (format : Format) (file : List ℕ) (nodes : ℕ) (cert : Option (List ℕ)) (w : World) (C : Instance) (before now status : ℕ) → input_named format w.files file ≡ Some (Ok C) → (Rose before now → ⊥)
-    → ((reply : Reply) × Answers (Some (Solve format file nodes cert)) (Some w) reply × (status ≡ reply_status reply)) ⊎ (status ≡ 5) ⊎ ((status ≡ 4) × Faulted (Some (Solve format file nodes cert)) (Some w) before now) → (status ≡ 0) ⊎ (status ≡ 6) ⊎ (status ≡ 5)
-solve_ends format file nodes cert w C before now status input calm (inl (Solved x, answers, is)) = elim (solved_is (is_optimal x.core.state.best (state_bound x.core.state)) status is) [ inl zero_is ↦ inl zero_is | inr six ↦ inr (inl six) ]
+    → ((reply : Reply) × Answers (Some (Solve format file nodes cert)) (Some w) reply × (status ≡ reply_status reply)) ⊎ (status ≡ 5) ⊎ ((status ≡ 4) × Faulted (Some (Solve format file nodes cert)) (Some w) before now) → EndsSearch C.weights.size nodes status
+solve_ends format file nodes cert w C before now status input calm (inl (Solved x, answers, is)) =
+    let same : instance_of x ≡ C = cc (answers.1, input) in
+    (
+      elim (solved_is (is_optimal x.core.state.best (state_bound x.core.state)) status is) [ inl zero_is ↦ inl zero_is | inr six ↦ inr (inl six) ],
+      λ enough. inl (is ∙ closed_status nodes x.core answers.0 (subst (λ (i : Instance). 2 * factorial i.weights.size ≤ nodes + 1) (sym same) enough))
+    )
 solve_ends format file nodes cert w C before now status input calm (inl (Checked x, answers, is)) = absurd answers
 solve_ends format file nodes cert w C before now status input calm (inl (Valued x, answers, is)) = absurd answers
 solve_ends format file nodes cert w C before now status input calm (inl (Generated x, answers, is)) = absurd answers
@@ -426,7 +433,7 @@ solve_ends format file nodes cert w C before now status input calm (inl (Refused
 solve_ends format file nodes cert w C before now status input calm (inl (Refused Words, answers, is)) = absurd answers
 solve_ends format file nodes cert w C before now status input calm (inl (Refused LongCertificate, answers, is)) = absurd answers
 solve_ends format file nodes cert w C before now status input calm (inl (Refused (Input e), answers, is)) = absurd (cc (answers, input))
-solve_ends format file nodes cert w C before now status input calm (inr (inl five)) = inr (inr five)
+solve_ends format file nodes cert w C before now status input calm (inr (inl five)) = (inr (inr five), λ _. inr five)
 solve_ends format file nodes cert w C before now status input calm (inr (inr (four, inl (inl missing)))) = absurd (not_missing format w file (Ok C) input missing)
 solve_ends format file nodes cert w C before now status input calm (inr (inr (four, inl (inr none)))) = absurd none
 solve_ends format file nodes cert w C before now status input calm (inr (inr (four, inr rose))) = absurd (calm rose)

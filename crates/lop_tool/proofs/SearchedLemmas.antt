@@ -1,5 +1,5 @@
 -- What the core of a finished search says of its weights.
-use Rattle.std.proofs.Common.{◌≡◌, ℕ, [], ◌≤◌, List, ◌≤ℤ◌, inl, inr, refl, sym, ap, subst, arith}
+use Rattle.std.proofs.Common.{◌≡◌, ℕ, ◌+◌, ◌*◌, [], ◌≤◌, List, ℤ, int_le, ◌≤ℤ◌, Bool, true, false, cond, ◌&&◌, inl, inr, refl, sym, ◌∙◌, ap, subst, arith}
 use Rattle.std.proofs.lemmas.Int.{ints}
 use Rattle.lop_model.specs.Order.{IsOrder}
 use Rattle.lop_model.specs.Matrix.{Matrix, IsWeights, weight}
@@ -9,13 +9,16 @@ use Rattle.lop_core.specs.Machine.{Problem, state_bound}
 use Rattle.lop_core.specs.Tree.{out_count}
 use Rattle.lop_core.specs.Core.{CoreFields, HasHistory, prepared}
 use Rattle.lop_core.specs.Outcome.{IsFinished}
+use Rattle.lop_core.specs.AllOrders.{factorial}
+use Rattle.lop_core.proofs.DoneNodes.{closed_within}
+use Rattle.lop_core.proofs.NodeCount.{core_nodes_factorial}
 use Rattle.lop_core.proofs.Alone.{core_outcome, spent_above, bound_closed}
 use Rattle.lop_core.proofs.CoreLemmas.{core_bound, prepared_true}
 use Rattle.lop_core.proofs.Monotone.{core_from_start, core_packed, core_packed_closed}
 use Rattle.lop_climb.specs.StartOrder.{IsBeckerOrder}
 use Rattle.lop_report.proofs.TotalLemmas.{within_limit}
 use Rattle.lop_tool.specs.declared.reply.Solution.{Solution}
-use Rattle.lop_tool.specs.Reply.{IsPrepared, IsSearched, IsSolved, IsOfSize, IsPrintable}
+use Rattle.lop_tool.specs.Reply.{IsPrepared, IsSearched, IsSolved, IsOfSize, IsPrintable, solved_status, search_status}
 use Rattle.lop_tool.specs.declared.reply.Reply.TheVariants.{Solved}
 
 of_core : (core : CoreFields) → HasHistory core → IsFinished core.problem core.state → IsWeights core.problem.weights → ((t : List ℕ) → IsBeckerOrder core.problem.weights t → weight core.problem.weights t ≤ℤ core.problem.start)
@@ -69,3 +72,17 @@ IsPrintable-solved budget x solved of_size =
     let most = solved.searched.weights.bounded_sum in
     let best : x.core.state.best ≡ weight x.core.problem.weights x.core.order = sym solved.history.weighs in
     (solved.history.is_order.complete, within_limit x.core.state.best (omega (arith, ints, best, weighs.0, most)) (omega (arith, ints, best, weighs.1, most)), of_size)
+
+-- two numbers that are the same give 0
+same_status : (z : ℤ) → solved_status z z ≡ 0
+same_status z = by (int_le z z) (grind (arith, ints))
+  where
+    by : (b : Bool) → b ≡ true → cond (b && b) 0 6 ≡ 0
+    by true is = refl
+    by false is = absurd cc
+
+-- with a budget for all nodes that n objects can have, a search ends with value and bound the same
+pub closed_status : (budget : ℕ) (core : CoreFields) → IsSolved budget core → 2 * factorial core.problem.weights.size ≤ budget + 1 → search_status core ≡ 0
+closed_status budget core solved enough =
+    let closed = closed_within core solved.history solved.finished (omega (arith, core_nodes_factorial core solved.history, enough, solved.budget_is)) in
+    ap (solved_status core.state.best) (bound_closed core.state closed) ∙ same_status core.state.best

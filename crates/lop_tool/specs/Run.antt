@@ -1,11 +1,12 @@
 -- What a run promises.
-use Rattle.std.specs.Prelude.{◌≡◌, ◌⊎◌, ℕ, ◌≤◌, List, take, ℤ, Option, None, Some, IfSome, Result, Ok, Err, ⊤}
+use Rattle.std.specs.Prelude.{◌≡◌, ◌⊎◌, ℕ, ◌+◌, ◌*◌, ◌≤◌, List, take, ℤ, Option, None, Some, IfSome, Result, Ok, Err, ⊤}
 use Rattle.lop_desk.specs.World.{World, NamedFile, file_named, put_file, with_opened, with_made, with_printed}
 use Rattle.lop_desk.specs.Causes.{Rose}
 use Rattle.lop_desk.specs.Desk.{IsMissing}
 use Rattle.lop_model.specs.Matrix.{Matrix, IsUpperBound, weight}
 use Rattle.lop_certtext.specs.declared.reason.Reason.{Reason}
 use Rattle.lop_check.specs.Verdict.{IsWeighed}
+use Rattle.lop_core.specs.AllOrders.{factorial}
 use Rattle.lop_core.specs.Core.{CoreFields}
 use Rattle.lop_certtext.specs.Tree.{tree_size}
 use Rattle.lop_certtext.specs.Certificate.{Certificate, certificate_text, IsTreeCertificate}
@@ -363,11 +364,16 @@ EndsBy (accepted value bound) status = (status ≡ solved_status value bound) �
 EndsBy (rejected line reason) status = (status ≡ 1) ⊎ (status ≡ 5)
 EndsBy too_long status = (status ≡ 3) ⊎ (status ≡ 5)
 
+-- a search of n objects ends with 0 or 6, or for want of memory; and never with 6 where the budget allows all nodes that
+-- there can be
+abbrev pub EndsSearch : ℕ → ℕ → ℕ → Type 0
+EndsSearch n nodes status = ((status ≡ 0) ⊎ (status ≡ 6) ⊎ (status ≡ 5)) × (2 * factorial n ≤ nodes + 1 → (status ≡ 0) ⊎ (status ≡ 5))
+
 -- accepted inputs and no fault leave no other end
 abbrev pub IsComplete : Option Command → World → ℕ → ℕ → ℕ → Type 0
 IsComplete None w before now status = ⊤
 IsComplete (Some (Solve format file nodes cert)) w before now status =
-    (input : Instance) → input_named format w.files file ≡ Some (Ok input) → ¬ (Rose before now) → (status ≡ 0) ⊎ (status ≡ 6) ⊎ (status ≡ 5)
+    (input : Instance) → input_named format w.files file ≡ Some (Ok input) → ¬ (Rose before now) → EndsSearch input.weights.size nodes status
 IsComplete (Some (Check format file cert)) w before now status =
     (input : Instance) (bytes : List ℕ) → input_named format w.files file ≡ Some (Ok input) → file_named w.files cert ≡ Some bytes → ¬ (Rose before now) → EndsBy (check_answer input.weights bytes) status
 IsComplete (Some (Value format file order_file)) w before now status =

@@ -38,6 +38,7 @@ abbrev with_next : ℕ → List (List ℕ) → List (List ℕ)
 with_next n [] = []
 with_next n (s ∷ all) = put_below n s (suc n) ++ with_next n all
 
+-- of 0 objects the empty order; of n + 1 objects each order of n, with the object n put in at each place
 abbrev pub all_orders : ℕ → List (List ℕ)
 all_orders zero = [] ∷ []
 all_orders (suc n) = with_next n (all_orders n)
@@ -53,6 +54,7 @@ length-with_next n [] = sym (zero-mul (suc n))
 length-with_next n (s ∷ all) =
     omega (arith, length-append (put_below n s (suc n)) (with_next n all), length-put_below n s (suc n), length-with_next n all, suc-mul (length all) (suc n))
 
+-- n! orders stand in it
 pub length-all_orders : (n : ℕ) → length (all_orders n) ≡ factorial n
 length-all_orders zero = refl
 length-all_orders (suc n) = length-with_next n (all_orders n) ∙ ap (λ k. k * suc n) (length-all_orders n) ∙ mul_comm (factorial n) (suc n)
@@ -75,6 +77,7 @@ order_next n s o = record {
   distinct zero (suc q) l m = λ e. absurd (omega (arith, e, o.below q (omega arith)))
   distinct (suc p) (suc q) l m = o.distinct p q (omega arith) (omega arith)
 
+-- n put into an order of n
 order_put : (n : ℕ) (s : List ℕ) (k : ℕ) → IsOrder n s → IsOrder (suc n) (insert s k n)
 order_put n s k o = IsOrder-IsPermutation (suc n) (n ∷ s) (insert s k n) (IsPermutation-insert s k n) (order_next n s o)
 
@@ -124,7 +127,7 @@ other_below n a less other = elim (cases_lt a n) [
   | inr ge ↦ let e : n ≡ a = omega arith in absurd (other e)
 ]
 
--- without n, an order of n + 1 that begins with n is an order of n
+-- what follows n in an order of n + 1 that begins with n is an order of n
 order_rest : (n : ℕ) (r : List ℕ) → IsOrder (suc n) (n ∷ r) → IsOrder n r
 order_rest n r o = record {
   complete = omega (arith, o.complete);
@@ -159,5 +162,6 @@ every_order (suc n) s o =
     subst (λ (x : List ℕ). HasOrder (with_next n (all_orders n)) x) (put_back n s o)
     (has_with_next n (all_orders n) (remove s (at_next n s o)) (at_next n s o) (place_of-below (suc n) s n o (omega arith)) (every_order n (remove s (at_next n s o)) (order_without n s o)))
 
+-- the list has all orders of n
 pub all_orders_are : (n : ℕ) → AreAllOrders n (all_orders n)
 all_orders_are n = record { orders = only_orders n; every = every_order n }

@@ -15,6 +15,7 @@ pub mod BookLemmas
 pub mod PathRoom
 pub mod CoreLemmas
 pub mod Extensions
+pub mod OrderCount
 pub mod NodeCount
 pub mod DoneNodes
 pub mod JudgeLemmas

@@ -1,4 +1,4 @@
--- The nodes of a lawful journal's replay are at most twice the orders, less one.
+-- A lawful journal's replay has at most 2 * n! - 1 nodes.
 use Rattle.std.proofs.Common.{◌≡◌, ℕ, ◌+◌, ◌*◌, ◌<◌, ◌≤◌, List, [], ◌∷◌, length, inl, inr, arith, sym, refl, ap, subst, suc, zero, Bool, true, false, cond, eqb, ◌||◌, eq-eqb}
 use Rattle.std.specs.List.{list_any}
 use Rattle.std.proofs.lemmas.Map.Steps.{le-length_from_below}
@@ -6,7 +6,7 @@ use Rattle.std.proofs.lemmas.List.Sums.{sum_by-cons}
 use Rattle.std.proofs.lemmas.Option.{slice_get_within}
 use Rattle.lop_model.specs.Order.{IsOrder}
 use Rattle.lop_model.specs.Fixings.{IsLinearExtension}
-use Rattle.lop_core.specs.AllOrders.{HasOrder, AreOrders, AreAllOrders}
+use Rattle.lop_core.specs.AllOrders.{factorial}
 use Rattle.lop_core.specs.declared.node.SearchNode.{SearchNode}
 use Rattle.lop_core.specs.declared.journal.Entry.{Entry}
 use Rattle.lop_core.specs.Tree.{path_of, is_split, IsOpen, IsCoveredOnce, split_count}
@@ -15,6 +15,7 @@ use Rattle.lop_core.specs.Journal.{replay, IsLawfulJournal}
 use Rattle.lop_core.specs.Core.{CoreFields, HasHistory}
 use Rattle.lop_core.proofs.Replay.{sound_replay}
 use Rattle.lop_core.proofs.Extensions.{extension_of}
+use Rattle.lop_core.proofs.OrderCount.{HasOrder, AreOrders, AreAllOrders, all_orders, all_orders_are, length-all_orders}
 
 -- 1 for a node that isn't split
 abbrev pub open_one : Bool → ℕ
@@ -96,14 +97,15 @@ module _ (n : ℕ) (nodes : List SearchNode) (cover : (s : List ℕ) → IsOrder
       subst (λ (k : ℕ). list_any (eqb k) (ranks all h.orders) ≡ true) r.2 (has_rank r.0 r.1 x.0 x.2 all h.orders (h.every x.0 x.1))) in
       omega (arith, length-ranks all h.orders)
 
--- with m orders there are at most 2 * m - 1 nodes
-pub nodes_at_most : (problem : Problem) (journal : List Entry) → IsLawfulJournal problem journal → (all : List (List ℕ)) → AreAllOrders problem.weights.size all
-    → length (replay problem journal).nodes + 1 ≤ 2 * length all
-nodes_at_most problem journal h all a =
+-- there are at most 2 * n! - 1 nodes
+pub nodes_factorial : (problem : Problem) (journal : List Entry) → IsLawfulJournal problem journal → length (replay problem journal).nodes + 1 ≤ 2 * factorial problem.weights.size
+nodes_factorial problem journal h =
+    let n = problem.weights.size in
+    let nodes = (replay problem journal).nodes in
     let sound = sound_replay problem journal h in
-    let le = open_le problem.weights.size (replay problem journal).nodes sound.cover
-    (λ i o. extension_of problem.weights.size (path_of (replay problem journal).nodes i) (sound.lawful i (slice_get_within (replay problem journal).nodes i o.it o.is_there))) all a in
-    omega (arith, sound.size, open_and_split (replay problem journal).nodes)
+    let le : open_count nodes ≤ length (all_orders n) = open_le n nodes sound.cover
+    (λ i o. extension_of n (path_of nodes i) (sound.lawful i (slice_get_within nodes i o.it o.is_there))) (all_orders n) (all_orders_are n) in
+    omega (arith, sound.size, open_and_split nodes, length-all_orders n)
 
-pub core_nodes_at_most : (core : CoreFields) → HasHistory core → (all : List (List ℕ)) → AreAllOrders core.problem.weights.size all → length core.state.nodes + 1 ≤ 2 * length all
-core_nodes_at_most core h all a = subst (λ (s : SearchState). length s.nodes + 1 ≤ 2 * length all) (sym h.replayed) (nodes_at_most core.problem core.journal h.lawful all a)
+pub core_nodes_factorial : (core : CoreFields) → HasHistory core → length core.state.nodes + 1 ≤ 2 * factorial core.problem.weights.size
+core_nodes_factorial core h = subst (λ (s : SearchState). length s.nodes + 1 ≤ 2 * factorial core.problem.weights.size) (sym h.replayed) (nodes_factorial core.problem core.journal h.lawful)

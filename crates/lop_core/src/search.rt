@@ -11,7 +11,7 @@ ghost use Rattle.lop_core.specs.declared.records.NumberedTerm.{NumberedTerm};
 ghost use Rattle.lop_core.specs.Tree.{IsCoveredOnce, node_at, path_of};
 ghost use Rattle.lop_core.specs.Machine.{IsLive, IsOutTo, live_count, ready_count, state_bound};
 ghost use Rattle.lop_core.specs.Journal.{HasTake, HasReport, entries_of, AreCounted};
-ghost use Rattle.lop_core.specs.AllOrders.{AreAllOrders};
+ghost use Rattle.lop_core.specs.AllOrders.{factorial};
 ghost use Rattle.lop_core.specs.Core.{CoreFields, HasHistory, IsTake, OnNode, IsReport, IsSoundReport, AreRecorded, prepared, view_of};
 ghost use Rattle.lop_core.specs.Records.{IsNodeRecord, IsRecordBook, cut_at, record_at, scaled_of};
 
@@ -51,7 +51,6 @@ pub struct Core {
 
 impl Model for Core {
     ghost use Rattle.std.specs.Prelude.{◌≡◌, vec_capacity};
-    ghost use Rattle.lop_core.specs.AllOrders.{AreAllOrders};
     ghost use Rattle.lop_core.specs.Kept.{AreKept, book_of};
     ghost use Rattle.lop_core.specs.Records.{term_room};
     ghost use Rattle.lop_core.specs.Core.{CoreFields, HasHistory, AreRecorded, HasRoom};
@@ -262,12 +261,11 @@ impl Core {
         count_ready(&self.nodes, self.best)
     }
 
-    /// The number of nodes: at most twice the number of all orders of n, less one, and at least the number of those
-    /// that were evaluated.
+    /// The number of nodes: at most 2 · n! − 1, and at least the number of those that were evaluated.
     pub fn nodes(&self) -> u32
         ensures value { result ≡ length self.now.state.nodes }
         ensures evaluated { self.now.state.evaluated ≤ result }
-        ensures at_most { (all : List (List ℕ)) → AreAllOrders self.now.problem.weights.size all → result + 1 ≤ 2 * length all }
+        ensures at_most { result + 1 ≤ 2 * factorial self.now.problem.weights.size }
         ensures within_budget { result ≤ 2 * self.now.problem.budget + 1 }
     {
         self.nodes.len() as u32

@@ -1,7 +1,7 @@
 use Rattle.std.proofs.Common.{arith}
 use Rattle.lop_core.specs.contracts.search.Core.{the_view}
 use Rattle.lop_core.proofs.CoreLemmas.{core_nodes}
-use Rattle.lop_core.proofs.NodeCount.{core_nodes_at_most}
+use Rattle.lop_core.proofs.NodeCount.{core_nodes_factorial}
 use Rattle.lop_core.proofs.DoneNodes.{evaluated_nodes}
 use Rattle.lop_core.proofs.search.Core.nodes.Goals as goal
 
@@ -12,7 +12,7 @@ pub returns-clause-evaluated : goal.returns-clause-evaluated
 returns-clause-evaluated c = rw (← c.self.view_is) (omega (arith, evaluated_nodes (the_view c.self.inside) c.self.invariant.0, c.len.ensures))
 
 pub returns-clause-at_most : goal.returns-clause-at_most
-returns-clause-at_most c = rw (← c.self.view_is) (λ all a. omega (arith, core_nodes_at_most (the_view c.self.inside) c.self.invariant.0 all a, c.len.ensures))
+returns-clause-at_most c = rw (← c.self.view_is) (omega (arith, core_nodes_factorial (the_view c.self.inside) c.self.invariant.0, c.len.ensures))
 
 pub returns-clause-within_budget : goal.returns-clause-within_budget
 returns-clause-within_budget c = rw (← c.self.view_is) (omega (arith, core_nodes (the_view c.self.inside) c.self.invariant.0, c.len.ensures))

@@ -421,10 +421,9 @@ not_missing format w name input is missing = let none : input_named format w.fil
 solve_ends : (format : Format) (file : List ℕ) (nodes : ℕ) (cert : Option (List ℕ)) (w : World) (C : Instance) (before now status : ℕ) → input_named format w.files file ≡ Some (Ok C) → (Rose before now → ⊥)
     → ((reply : Reply) × Answers (Some (Solve format file nodes cert)) (Some w) reply × (status ≡ reply_status reply)) ⊎ (status ≡ 5) ⊎ ((status ≡ 4) × Faulted (Some (Solve format file nodes cert)) (Some w) before now) → EndsSearch C.weights.size nodes status
 solve_ends format file nodes cert w C before now status input calm (inl (Solved x, answers, is)) =
-    let same : instance_of x ≡ C = cc (answers.1, input) in
-    (
+    let same : instance_of x ≡ C = cc (answers.1, input) in (
       elim (solved_is (is_optimal x.core.state.best (state_bound x.core.state)) status is) [ inl zero_is ↦ inl zero_is | inr six ↦ inr (inl six) ],
-      λ enough. inl (is ∙ closed_status nodes x.core answers.0 (subst (λ (i : Instance). 2 * factorial i.weights.size ≤ nodes + 1) (sym same) enough))
+      λ enough. inl (is ∙ closed_status nodes x.core answers.0 (subst (λ (i : Instance). 2 * factorial i.weights.size ≤ nodes + 1) (sym same) enough)),
     )
 solve_ends format file nodes cert w C before now status input calm (inl (Checked x, answers, is)) = absurd answers
 solve_ends format file nodes cert w C before now status input calm (inl (Valued x, answers, is)) = absurd answers

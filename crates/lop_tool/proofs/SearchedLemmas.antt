@@ -77,7 +77,7 @@ IsPrintable-solved budget x solved of_size =
 same_status : (z : ℤ) → solved_status z z ≡ 0
 same_status z = by (int_le z z) (grind (arith, ints))
   where
-    by : (b : Bool) → b ≡ true → cond (b && b) 0 6 ≡ 0
+    by : (b : Bool) → b ≡ true → ◌≡◌ {A = ℕ} (cond (b && b) 0 6) 0
     by true is = refl
     by false is = absurd cc
 

@@ -3,6 +3,7 @@ pub mod ChargeLemmas
 pub mod MarginLemmas
 pub mod PackingLemmas
 pub mod SpentLemmas
+pub mod StillLemmas
 pub mod PackingValue
 pub mod FallLemmas
 pub mod QuotientLemmas

@@ -64,6 +64,10 @@ IsPassed n r t a b c = (4096 ≤ length r.terms) ⊎ IsSpentCycle n t a b c
 abbrev pub ArePassed : ℕ → ScaledTerms → List ℕ → ℕ → ℕ → ℕ → Type 0
 ArePassed n r t i j k = IsPassed n r t i j k × IsPassed n r t i k j
 
+-- no cycle over i and j can take anything: the record is full, or neither arc between them has a margin left
+abbrev pub IsPassedPair : ℕ → ScaledTerms → List ℕ → ℕ → ℕ → Type 0
+IsPassedPair n r t i j = (4096 ≤ length r.terms) ⊎ ((cell t n i j ≡ 0) × (cell t n j i ≡ 0))
+
 -- the record s and the table u come after r and t: there are no fewer terms, and a margin that was 0 is 0 still
 pub record IsLater (n : ℕ) (r : ScaledTerms) (t : List ℕ) (s : ScaledTerms) (u : List ℕ) : Type 0 where
   pub terms : length r.terms ≤ length s.terms

@@ -1,4 +1,4 @@
-ghost use Rattle.std.specs.Prelude.{◌≡◌, ◌≢◌, ℕ, ◌+◌, ◌*◌, ◌<◌, ◌≤◌, ◌^◌, [], ◌∷◌, List, length, All, min, ℤ, pos, ◌-ℤ◌, ◌≤ℤ◌, if◌then◌else◌, ◌==◌, ◌&&◌};
+ghost use Rattle.std.specs.Prelude.{true, ◌≡◌, ◌≢◌, ℕ, ◌+◌, ◌*◌, ◌<◌, ◌≤◌, ◌^◌, [], ◌∷◌, List, length, All, min, ℤ, pos, ◌-ℤ◌, ◌≤ℤ◌, if◌then◌else◌, ◌==◌, ◌&&◌};
 ghost use Rattle.lop_model.specs.Order.{IsOrder};
 ghost use Rattle.lop_model.specs.Matrix.{weight};
 ghost use Rattle.lop_model.specs.Fixings.{has_pair, IsLinearExtension};
@@ -8,7 +8,7 @@ ghost use Rattle.lop_cuts.specs.Lagrangian.{reduced_entry};
 ghost use Rattle.lop_leaf.specs.Record.{HasCutsBelow};
 ghost use Rattle.lop_leaf.specs.Bound.{record_value};
 ghost use Rattle.lop_leaf.specs.Packing.{positive_part, margin, pack_cycle, pack_triple, pack_pair, pack_object, packed, packing_bound, AreThree, IsExhausted, AreExhausted};
-ghost use Rattle.lop_leaf.specs.Table.{cell, lowered, IsMarginWord, HasMargins, IsPacking, IsPassed, ArePassed, IsLater};
+ghost use Rattle.lop_leaf.specs.Table.{cell, lowered, IsMarginWord, HasMargins, IsPacking, IsPassed, ArePassed, IsPassedPair, IsLater};
 
 use crate::{LeafRecord, MAX_TERMS, PairRoom, upper};
 use lop_cuts::Cut;
@@ -127,6 +127,17 @@ fn lower_cycle(table: &mut [u64], n: usize, a: u16, b: u16, c: u16, m: u64)
     lower(table, n, c, a, m);
 }
 
+/// What stands in row a and column b of the table.
+fn cell_of(table: &[u64], n: usize, a: u16, b: u16) -> u64
+    requires square { length table.now ≡ n * n }
+    requires within_limit { n ≤ 512 }
+    requires first { a < n }
+    requires second { b < n }
+    ensures { result ≡ cell table.now n a b }
+{
+    table[a as usize * n + b as usize]
+}
+
 /// The least margin of the cycle a, b, c.
 fn least_margin(table: &[u64], n: usize, a: u16, b: u16, c: u16) -> u64
     requires square { length table.now ≡ n * n }
@@ -134,9 +145,9 @@ fn least_margin(table: &[u64], n: usize, a: u16, b: u16, c: u16) -> u64
     requires three { AreThree n a b c }
     ensures { result ≡ min (cell table.now n a b) (min (cell table.now n b c) (cell table.now n c a)) }
 {
-    let first = table[a as usize * n + b as usize];
-    let second = table[b as usize * n + c as usize];
-    let third = table[c as usize * n + a as usize];
+    let first = cell_of(table, n, a, b);
+    let second = cell_of(table, n, b, c);
+    let third = cell_of(table, n, c, a);
     first.min(second.min(third))
 }
 
@@ -168,7 +179,8 @@ fn pack_one(
     }
 }
 
-/// Packs both cycles of three objects.
+/// Packs both cycles of three objects. At most one of the arcs between i and j has a margin, so only the cycle over
+/// that arc can take anything.
 fn pack_both(
     weights: &Weights,
     fixings: &Fixings,
@@ -188,11 +200,25 @@ fn pack_both(
     ensures later { IsLater weights.now.size rec.old table.old rec.new table.new }
     ensures passed { ArePassed weights.now.size rec.new table.new i j k }
 {
-    pack_one(weights, fixings, table, rec, i, j, k);
-    pack_one(weights, fixings, table, rec, i, k, j);
+    if cell_of(table, weights.n() as usize, i, j) > 0 {
+        pack_one(weights, fixings, table, rec, i, j, k);
+    } else {
+        pack_one(weights, fixings, table, rec, i, k, j);
+    }
 }
 
-/// Packs the triples i < j < k of an i and a j. O(n).
+/// Whether no cycle over i and j can take anything: the record is full, or neither arc between them has a margin.
+fn is_passed(table: &[u64], n: usize, rec: &LeafRecord, i: u16, j: u16) -> bool
+    requires square { length table.now ≡ n * n }
+    requires within_limit { n ≤ 512 }
+    requires first { i < n }
+    requires second { j < n }
+    ensures { result ≡ true → IsPassedPair n rec.now table.now i j }
+{
+    rec.len() >= MAX_TERMS || cell_of(table, n, i, j) == 0 && cell_of(table, n, j, i) == 0
+}
+
+/// Packs the triples i < j < k of an i and a j, until no cycle over both can take anything. At most O(n).
 fn pack_thirds(
     weights: &Weights,
     fixings: &Fixings,
@@ -212,11 +238,14 @@ fn pack_thirds(
 {
     let n = weights.n();
     for k in j + 1..n {
+        if is_passed(table, n as usize, rec, i, j) {
+            return;
+        }
         pack_both(weights, fixings, table, rec, i, j, k);
     }
 }
 
-/// Packs the triples i < j < k of an i. O(n²).
+/// Packs the triples i < j < k of an i. At most O(n²).
 fn pack_seconds(
     weights: &Weights,
     fixings: &Fixings,
@@ -238,7 +267,7 @@ fn pack_seconds(
     }
 }
 
-/// Packs all triples. O(n³).
+/// Packs all triples. At most O(n³).
 fn pack_all(weights: &Weights, fixings: &Fixings, table: &mut [u64], rec: &mut LeafRecord)
     requires same_n { fixings.now.size ≡ weights.now.size }
     requires square { length table.old ≡ weights.now.size * weights.now.size }
@@ -254,7 +283,7 @@ fn pack_all(weights: &Weights, fixings: &Fixings, table: &mut [u64], rec: &mut L
 }
 
 /// The packing bound under the fixings, and a record that shows it: 3-dicycles with multipliers at scale 1, taken
-/// greedily in lexicographic order, at most 4,096 of them. O(n³) steps of a few comparisons, and no memory.
+/// greedily in lexicographic order, at most 4,096 of them. At most O(n³) steps of a few comparisons, and no memory.
 pub fn packing(
     weights: &Weights,
     fixings: &Fixings,

@@ -1,14 +1,32 @@
-use Rattle.std.proofs.Common.{◌<◌, arith}
-use Rattle.lop_leaf.proofs.SpentLemmas.{later_then, passed_later}
+use Rattle.std.proofs.Common.{◌≡◌, sym, arith}
+use Rattle.lop_leaf.specs.Table.{cell}
+use Rattle.lop_leaf.proofs.StillLemmas.{triple_forth, triple_back}
 use Rattle.lop_leaf.proofs.pack.pack_both.Goals as goal
 
-pub returns-clause-later : goal.returns-clause-later
-returns-clause-later c = later_then c.args.weights.now.size c.args.rec.now c.args.table.now c.pack_one.new.rec c.pack_one.new.table c.pack_one-2.new.rec c.pack_one-2.new.table c.pack_one.ensures.later c.pack_one-2.ensures.later
+pub returns-then-cell_of-gt0-clause-terms : goal.returns-then-cell_of-gt0-clause-terms
+returns-then-cell_of-gt0-clause-terms c =
+    let C = c.args.weights.now in
+    let value : c.cell_of.result ≡ cell c.args.table.now C.size c.args.i c.args.j = rw (sym c.n.ensures.size) c.cell_of.ensures in
+    (triple_forth C c.args.fixings.now.pairs c.args.rec.now c.pack_one.new.rec c.args.table.now c.pack_one.new.table c.args.i c.args.j c.args.k c.requires.first c.requires.second c.requires.third c.requires.packing.margins
+    (omega (arith, value, c.if-cell_of-gt0.true)) c.pack_one.ensures.terms c.pack_one.ensures.packing.margins c.pack_one.ensures.later c.pack_one.ensures.passed).0
 
-pub returns-clause-passed : goal.returns-clause-passed
-returns-clause-passed c =
-    let n = c.args.weights.now.size in
-    let third : c.args.k < n = c.requires.third in
-    let second : c.args.j < n = omega (arith, c.requires.second, third) in
-    let first : c.args.i < n = omega (arith, c.requires.first, second) in
-    (passed_later n c.pack_one.new.rec c.pack_one.new.table c.pack_one-2.new.rec c.pack_one-2.new.table c.args.i c.args.j c.args.k first second third c.pack_one-2.ensures.later c.pack_one.ensures.passed, c.pack_one-2.ensures.passed)
+pub returns-then-cell_of-gt0-clause-passed : goal.returns-then-cell_of-gt0-clause-passed
+returns-then-cell_of-gt0-clause-passed c =
+    let C = c.args.weights.now in
+    let value : c.cell_of.result ≡ cell c.args.table.now C.size c.args.i c.args.j = rw (sym c.n.ensures.size) c.cell_of.ensures in
+    (triple_forth C c.args.fixings.now.pairs c.args.rec.now c.pack_one.new.rec c.args.table.now c.pack_one.new.table c.args.i c.args.j c.args.k c.requires.first c.requires.second c.requires.third c.requires.packing.margins
+    (omega (arith, value, c.if-cell_of-gt0.true)) c.pack_one.ensures.terms c.pack_one.ensures.packing.margins c.pack_one.ensures.later c.pack_one.ensures.passed).1
+
+pub returns-else-cell_of-gt0-clause-terms : goal.returns-else-cell_of-gt0-clause-terms
+returns-else-cell_of-gt0-clause-terms c =
+    let C = c.args.weights.now in
+    let value : c.cell_of.result ≡ cell c.args.table.now C.size c.args.i c.args.j = rw (sym c.n.ensures.size) c.cell_of.ensures in
+    (triple_back C c.args.fixings.now.pairs c.args.rec.now c.pack_one-else-cell_of-gt0.new.rec c.args.table.now c.pack_one-else-cell_of-gt0.new.table c.args.i c.args.j c.args.k c.requires.first c.requires.second c.requires.third c.requires.packing.margins
+    (omega (arith, value, c.if-cell_of-gt0.false)) c.pack_one-else-cell_of-gt0.ensures.terms c.pack_one-else-cell_of-gt0.ensures.later c.pack_one-else-cell_of-gt0.ensures.passed).0
+
+pub returns-else-cell_of-gt0-clause-passed : goal.returns-else-cell_of-gt0-clause-passed
+returns-else-cell_of-gt0-clause-passed c =
+    let C = c.args.weights.now in
+    let value : c.cell_of.result ≡ cell c.args.table.now C.size c.args.i c.args.j = rw (sym c.n.ensures.size) c.cell_of.ensures in
+    (triple_back C c.args.fixings.now.pairs c.args.rec.now c.pack_one-else-cell_of-gt0.new.rec c.args.table.now c.pack_one-else-cell_of-gt0.new.table c.args.i c.args.j c.args.k c.requires.first c.requires.second c.requires.third c.requires.packing.margins
+    (omega (arith, value, c.if-cell_of-gt0.false)) c.pack_one-else-cell_of-gt0.ensures.terms c.pack_one-else-cell_of-gt0.ensures.later c.pack_one-else-cell_of-gt0.ensures.passed).1

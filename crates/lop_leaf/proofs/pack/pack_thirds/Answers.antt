@@ -1,7 +1,9 @@
-use Rattle.std.proofs.Common.{◌+◌, inl, inr, ◌∙◌, sym, ap, arith}
+use Rattle.std.proofs.Common.{ℕ, ◌+◌, inl, inr, ◌∙◌, sym, ap, subst, arith}
 use Rattle.lop_leaf.specs.Packing.{pack_triple}
 use Rattle.lop_leaf.proofs.PackingLemmas.{in_turn_more}
+use Rattle.lop_leaf.specs.Table.{IsPassedPair}
 use Rattle.lop_leaf.proofs.SpentLemmas.{later_then, before_or_last, both_later}
+use Rattle.lop_leaf.proofs.StillLemmas.{triple_still, passed_pair, in_turn_still}
 use Rattle.lop_leaf.proofs.pack.pack_thirds.Goals as goal
 
 pub loop-k-preserved : goal.loop-k-preserved
@@ -17,3 +19,21 @@ loop-k-preserved c =
         | inr last ↦ rw last c.pack_both.ensures.passed
       ];
     }
+
+-- where no cycle over i and j can take anything, the steps that are left change nothing
+pub returns-then-is_passed-clause-terms : goal.returns-then-is_passed-clause-terms
+returns-then-is_passed-clause-terms c =
+    let C = c.args.weights.now in
+    let G = c.args.fixings.now.pairs in
+    let i = c.args.i in
+    let j = c.args.j in
+    let pair : IsPassedPair C.size c.loop-k.rec c.loop-k.table i j = subst (λ (n : ℕ). IsPassedPair n c.loop-k.rec c.loop-k.table i j) c.n-n.ensures.size (c.is_passed.ensures c.if-is_passed.true) in
+    in_turn_still (j + 1) c.loop-k.k C.size (pack_triple C G i j) c.args.rec.now.terms c.loop-k.rec.terms (omega (arith, c.loop-k.auto.k)) (omega (arith, c.n-n.ensures.size, c.loop-k-test.true)) c.loop-k.invariant.terms
+    (λ k lk kn. triple_still C G c.loop-k.rec c.loop-k.table i j k c.loop-k.invariant.packing.margins c.requires.first (omega (arith, lk, c.loop-k.auto.k)) kn (passed_pair C.size c.loop-k.rec c.loop-k.table i j k pair))
+
+pub returns-then-is_passed-clause-passed : goal.returns-then-is_passed-clause-passed
+returns-then-is_passed-clause-passed c k jk kn =
+    let C = c.args.weights.now in
+    let i = c.args.i in
+    let j = c.args.j in
+    passed_pair C.size c.loop-k.rec c.loop-k.table i j k (subst (λ (n : ℕ). IsPassedPair n c.loop-k.rec c.loop-k.table i j) c.n-n.ensures.size (c.is_passed.ensures c.if-is_passed.true))

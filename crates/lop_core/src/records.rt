@@ -1,6 +1,6 @@
 // The records of the nodes, in rooms that are made once.
-ghost use Rattle.std.specs.Prelude.{◌≡◌, ◌+◌, ◌*◌, ◌<◌, ◌≤◌, [], ◌∷◌, ◌++◌, length, true, All, AllPairs, IfOk, IfSome, IfNone, vec_len, vec_capacity, min};
-ghost use Rattle.lop_core.specs.Records.{AreDifferentCuts, IsTakenIn, IsTakenOrKept, empty_record, finds_room, new_cuts, record_at, scaled_of, term_room as term_room_of, terms_of, with_children};
+ghost use Rattle.std.specs.Prelude.{◌≡◌, ◌+◌, ◌*◌, ◌<◌, ◌≤◌, [], ◌∷◌, ◌++◌, length, true, All, AllPairs, IfOk, IfSome, IfNone, vec_len, vec_capacity, min, nat_le};
+ghost use Rattle.lop_core.specs.Records.{AreDifferentCuts, IsTakenIn, IsTakenOrKept, cut_room, empty_record, finds_room, new_cuts, record_at, scaled_of, term_room as term_room_of, terms_of, with_children};
 ghost use Rattle.lop_leaf.specs.Record.{IsMultiplier, IsScaledTerms};
 ghost use Rattle.lop_core.specs.Kept.{AreKept, book_of};
 
@@ -55,6 +55,14 @@ fn new_count(cuts: &CutIndex, shown: &LeafRecord) -> usize
         }
     }
     count
+}
+
+/// Whether there is room for the cuts of the record that aren't in the list. They are only counted where there is no
+/// room for all its cuts.
+fn has_cut_room(cuts: &CutIndex, shown: &LeafRecord) -> bool
+    ensures { result ≡ nat_le (length cuts.now + length (new_cuts cuts.now shown.now.terms)) cut_room }
+{
+    cuts.len() + shown.len() <= CUT_ROOM || cuts.len() + new_count(cuts, shown) <= CUT_ROOM
 }
 
 /// Writes the terms with the numbers of their cuts, and puts the new ones at the end of the list of cuts.
@@ -146,8 +154,7 @@ impl Records {
         ensures shown { IsScaledTerms shown.now }
     {
         shown.len() == 0
-            || (self.terms.len() + shown.len() <= self.term_room
-                && self.cuts.len() + new_count(&self.cuts, shown) <= CUT_ROOM)
+            || (self.terms.len() + shown.len() <= self.term_room && has_cut_room(&self.cuts, shown))
     }
 
     /// Gives the node this record, which finds room. O(terms, each with the log of the number of terms and cuts),

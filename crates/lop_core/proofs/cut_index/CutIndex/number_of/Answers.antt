@@ -5,38 +5,38 @@ use Rattle.lop_core.specs.Records.{is_new, AreDifferentCuts}
 use Rattle.lop_core.proofs.CutIndexLemmas.{gap_new, gap_absent, number_not_new, AreDifferentCuts-push}
 use Rattle.lop_core.proofs.cut_index.CutIndex.number_of.Goals as goal
 
-pub append-requires-clause-room : goal.append-requires-clause-room
-append-requires-clause-room c =
+pub append-number-requires-clause-room : goal.append-number-requires-clause-room
+append-number-requires-clause-room c =
     let gap = rw (c.deref.ensures.value, c.deref-2.ensures.value) at c.in-Err.ensures.gap in
     let new = gap_new c.self.inside.cuts.items c.self.inside.index.items c.args.cut.now c.in-Err.place c.self.invariant.1 gap in
     subst (λ (cuts : List CutKind). is_new cuts c.args.cut.now ≡ true → length cuts < 65536) (sym c.self.view_is) c.requires new
 
-pub append-requires-clause-for_cuts : goal.append-requires-clause-for_cuts
-append-requires-clause-for_cuts c =
+pub append-number-requires-clause-for_cuts : goal.append-number-requires-clause-for_cuts
+append-number-requires-clause-for_cuts c =
     let gap = rw (c.deref.ensures.value, c.deref-2.ensures.value) at c.in-Err.ensures.gap in
     let new = gap_new c.self.inside.cuts.items c.self.inside.index.items c.args.cut.now c.in-Err.place c.self.invariant.1 gap in
     let room = subst (λ (cuts : List CutKind). is_new cuts c.args.cut.now ≡ true → length cuts < 65536) (sym c.self.view_is) c.requires new in
     omega (arith, room, c.self.invariant.3)
 
-pub append-requires-clause-for_index : goal.append-requires-clause-for_index
-append-requires-clause-for_index c =
+pub append-number-requires-clause-for_index : goal.append-number-requires-clause-for_index
+append-number-requires-clause-for_index c =
     let gap = rw (c.deref.ensures.value, c.deref-2.ensures.value) at c.in-Err.ensures.gap in
     let new = gap_new c.self.inside.cuts.items c.self.inside.index.items c.args.cut.now c.in-Err.place c.self.invariant.1 gap in
     let room = subst (λ (cuts : List CutKind). is_new cuts c.args.cut.now ≡ true → length cuts < 65536) (sym c.self.view_is) c.requires new in
     omega (arith, room, c.self.invariant.4)
 
-pub invariant_of-self : goal.invariant_of-self
-invariant_of-self c =
+pub invariant_of-self-in-Err : goal.invariant_of-self-in-Err
+invariant_of-self-in-Err c =
     let gap = rw (c.deref.ensures.value, c.deref-2.ensures.value) at c.in-Err.ensures.gap in
     let new = gap_new c.self.inside.cuts.items c.self.inside.index.items c.args.cut.now c.in-Err.place c.self.invariant.1 gap in
     let room = subst (λ (cuts : List CutKind). is_new cuts c.args.cut.now ≡ true → length cuts < 65536) (sym c.self.view_is) c.requires new in
     let absent = gap_absent c.self.inside.cuts.items c.self.inside.index.items c.args.cut.now c.in-Err.place c.self.invariant.1 gap in
-    let longer : length c.append.new.cuts.items ≡ length c.self.inside.cuts.items + 1 = ap length c.append.ensures.cuts ∙ length_push c.self.inside.cuts.items c.args.cut.now in (
-      subst AreDifferentCuts (sym c.append.ensures.cuts) (AreDifferentCuts-push c.self.inside.cuts.items c.args.cut.now c.self.invariant.0 c.append.ensures.cut absent),
-      c.append.ensures.index,
+    let longer : length c.append-number.new.cuts.items ≡ length c.self.inside.cuts.items + 1 = ap length c.append-number.ensures.cuts ∙ length_push c.self.inside.cuts.items c.args.cut.now in (
+      subst AreDifferentCuts (sym c.append-number.ensures.cuts) (AreDifferentCuts-push c.self.inside.cuts.items c.args.cut.now c.self.invariant.0 c.append-number.ensures.cut absent),
+      c.append-number.ensures.index,
       omega (arith, room),
-      omega (arith, c.self.invariant.3, c.append.ensures.for_cuts),
-      omega (arith, c.self.invariant.4, c.append.ensures.for_index),
+      omega (arith, c.self.invariant.3, c.append-number.ensures.for_cuts),
+      omega (arith, c.self.invariant.4, c.append-number.ensures.for_index),
     )
 
 pub returns-in-Ok-clause-cuts : goal.returns-in-Ok-clause-cuts
@@ -49,4 +49,4 @@ pub returns-in-Err-clause-cuts : goal.returns-in-Err-clause-cuts
 returns-in-Err-clause-cuts c =
     let gap = rw (c.deref.ensures.value, c.deref-2.ensures.value) at c.in-Err.ensures.gap in
     let new = gap_new c.self.inside.cuts.items c.self.inside.index.items c.args.cut.now c.in-Err.place c.self.invariant.1 gap in
-    rw (← c.self.view_is, new) c.append.ensures.cuts
+    rw (← c.self.view_is, new) c.append-number.ensures.cuts

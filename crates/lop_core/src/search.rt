@@ -15,13 +15,14 @@ ghost use Rattle.lop_core.specs.AllOrders.{factorial};
 ghost use Rattle.lop_core.specs.Core.{CoreFields, HasHistory, IsTake, OnNode, IsReport, IsSoundReport, AreRecorded, prepared, view_of};
 ghost use Rattle.lop_core.specs.Records.{IsNodeRecord, IsRecordBook, cut_at, record_at, scaled_of};
 
+use crate::candidates::Candidates;
 use crate::journal::Entry;
 use crate::node::{NodeView, SearchNode, Standing};
 use crate::path::fill_ticket;
 use crate::records::Records;
 use crate::reply::{ReportReply, TakeReply};
 use crate::room::put_last;
-use crate::scan::{best_ready, count_live, count_ready, first_live, greatest_bound};
+use crate::scan::{count_live, count_ready, first_live, greatest_bound};
 use crate::settle::{child, either, is_out_to, keep_better, settle};
 use crate::start::root_bound;
 use lop_cuts::Cut;
@@ -47,6 +48,7 @@ pub struct Core {
     path: Vec<Pair>,
     records: Records,
     inherited: LeafRecord,
+    candidates: Candidates,
 }
 
 impl Model for Core {
@@ -55,6 +57,7 @@ impl Model for Core {
     ghost use Rattle.lop_core.specs.Records.{term_room};
     ghost use Rattle.lop_core.specs.Core.{CoreFields, HasHistory, AreRecorded, HasRoom};
     ghost use Rattle.lop_core.specs.Tree.{out_count};
+    ghost use Rattle.lop_core.specs.Candidates.{HasCandidates};
 
     ghost Value = { CoreFields };
 
@@ -78,7 +81,7 @@ impl Model for Core {
       journal = c.journal.items;
       order = c.order;
       book = book_of c.records;
-    }) × HasRoom c.weights.size c.budget (vec_capacity c.nodes) (vec_capacity c.journal) (vec_capacity c.path) (vec_capacity c.records.spans) × (c.out ≡ out_count c.nodes.items) × AreKept c.records × (c.records.term_room ≡ term_room c.budget) };
+    }) × HasRoom c.weights.size c.budget (vec_capacity c.nodes) (vec_capacity c.journal) (vec_capacity c.path) (vec_capacity c.records.spans) × (c.out ≡ out_count c.nodes.items) × AreKept c.records × (c.records.term_room ≡ term_room c.budget) × HasCandidates (record { nodes = c.nodes.items; best = c.best; evaluated = c.evaluated }) c.budget c.out c.candidates };
 }
 
 impl Core {
@@ -104,6 +107,8 @@ impl Core {
         let mut kept = Order::first(alloc, n)?;
         kept.copy_from(order);
         let pairs = n as usize * (n as usize).saturating_sub(1) / 2;
+        let mut candidates = Candidates::with_room(alloc, budget as usize + 1)?;
+        candidates.put(0, bound);
         Ok(Core {
             weights: weights.copy()?,
             start: best,
@@ -117,6 +122,7 @@ impl Core {
             path: Vec::with_capacity(alloc, pairs)?,
             records: Records::prepare(alloc, budget)?,
             inherited: LeafRecord::new(alloc)?,
+            candidates,
         })
     }
 
@@ -127,7 +133,7 @@ impl Core {
         ensures step { IsTake self.old into.old worker result self.new into.new }
         ensures on_node { OnNode self.old worker result self.new into.new }
     {
-        let Some(index) = best_ready(&self.nodes, self.best) else {
+        let Some(node) = self.candidates.first_ready(&self.nodes, self.best) else {
             return match first_live(&self.nodes, self.best) {
                 Some(_) => TakeReply::AllOut,
                 None => TakeReply::Done,
@@ -136,7 +142,8 @@ impl Core {
         if self.evaluated + self.out >= self.budget {
             return TakeReply::Spent;
         }
-        let node = index as u32;
+        let index = node as usize;
+        self.candidates.remove_top();
         self.records.read(index, &mut self.inherited);
         fill_ticket(
             &self.nodes,
@@ -185,6 +192,7 @@ impl Core {
         let bound = either(room, found.bound(), self.nodes[index].bound);
         let split = settle(&mut self.nodes, node, bound, pair, self.best);
         self.records.inherit(index, split);
+        self.candidates.put_children(split, bound);
         match split {
             Some(first) => ReportReply::Split(first),
             None => ReportReply::Closed,

@@ -1,6 +1,6 @@
 -- What the candidates keep as they are dropped, taken and put in.
-use Rattle.std.proofs.Common.{◌≡◌, ℕ, ◌+◌, ◌<◌, ◌≤◌, List, [], ◌∷◌, ◌++◌, length, inl, inr, ◌⊎◌, arith, sym, ◌∙◌, Some, None, Option, refl, ap, subst, suc, zero, Bool, true, false, All, Contains, IsPermutation, get_or}
-use Rattle.std.specs.Prelude.{slice_get, ℤ, ◌<ℤ◌, ◌≤ℤ◌, IfSome, IfNone, int_lt, ◌&&◌}
+use Rattle.std.proofs.Common.{◌≡◌, ℕ, ◌<◌, List, [], ◌∷◌, length, inl, inr, ◌⊎◌, arith, sym, ◌∙◌, refl, ap, subst, suc, zero, Bool, true, false, Contains, IsPermutation, get_or}
+use Rattle.std.specs.Prelude.{ℤ, ◌<ℤ◌, ◌≤ℤ◌, int_lt, ◌&&◌}
 use Rattle.std.specs.declared.cmp.Ordering.{Ordering}
 use Rattle.std.specs.declared.cmp.Ordering.TheVariants.{Less, Equal, Greater}
 use Rattle.std.specs.Ordering.{is_lt, MatchOrdering, int_cmp, nat_cmp, ordering_then}
@@ -16,7 +16,7 @@ use Rattle.lop_core.specs.declared.node.Standing.{Standing}
 use Rattle.lop_core.specs.declared.node.Standing.TheVariants.{Idle, Out, Split}
 use Rattle.lop_core.specs.Tree.{child, no_pair, node_at, is_idle}
 use Rattle.lop_core.specs.Machine.{IsReady, IsFirstReady}
-use Rattle.lop_core.specs.Candidates.{AreCandidates, IsTop, candidate, candidate_order}
+use Rattle.lop_core.specs.Candidates.{AreCandidates, candidate, candidate_order}
 
 -- ---- the order
 
@@ -35,6 +35,7 @@ over a b e = not_less a.bound b.bound a.node.0 b.node.0 (int_cmp a.bound b.bound
 
 -- ---- the top
 
+-- an element of a list with one more at its front
 one_of : (cs : List Candidate) (a b : Candidate) → Contains (a ∷ cs) b → (a ≡ b) ⊎ Contains cs b
 one_of cs a b h = elim (Contains-append_cases (a ∷ []) cs b h) [
   | inl (zero, lt, e) ↦ inl e
@@ -42,7 +43,7 @@ one_of cs a b h = elim (Contains-append_cases (a ∷ []) cs b h) [
   | inr more ↦ inr more
 ]
 
--- where the top is of a ready node, that is the first of them
+-- where the top names a ready node, that node is the first of the best
 pub top_first : (nodes : List SearchNode) (best : ℤ) (cs : List Candidate) (top : Candidate) → AreCandidates nodes best cs → top ≡ get_or cs 0 top → 0 < length cs → IsUpperBound candidate_order top cs
     → IsReady nodes best top.node.0 → IsFirstReady nodes best top.node.0
 top_first nodes best cs top h e some greatest ready =
@@ -61,7 +62,7 @@ top_first nodes best cs top h e some greatest ready =
 pub none_ready : (nodes : List SearchNode) (best : ℤ) (cs : List Candidate) → AreCandidates nodes best cs → length cs ≡ 0 → (node : ℕ) → IsReady nodes best node → ⊥
 none_ready nodes best cs h e node ready = let at = h.every node ready in absurd (omega (arith, at.1))
 
--- a candidate of a node that isn't ready is dropped
+-- a candidate is dropped whose node isn't ready
 pub drop_stale : (nodes : List SearchNode) (best : ℤ) (cs rest : List Candidate) (top : Candidate) → AreCandidates nodes best cs → IsPermutation cs (top ∷ rest) → IsHeap candidate_order rest
     → ¬ (IsReady nodes best top.node.0) → AreCandidates nodes best rest
 drop_stale nodes best cs rest top h p heap stale = record {
@@ -82,11 +83,13 @@ both : (a b : Bool) → (a && b) ≡ true → (a ≡ true) × (b ≡ true)
 both true b e = (refl, e)
 both false b e = absurd cc
 
+-- a standing that passes the test
 idle_by : (standing : Standing) → is_idle standing ≡ true → standing ≡ Idle
 idle_by Idle e = refl
 idle_by (Out worker) e = absurd cc
 idle_by (Split first) e = absurd cc
 
+-- a node that passes the test is ready, and one that fails isn't
 pub ready_by : (nodes : List SearchNode) (best : ℤ) (i : ℕ) → i < length nodes → (is_idle (node_at nodes i).standing && int_lt best (node_at nodes i).bound) ≡ true → IsReady nodes best i
 ready_by nodes best i lt t =
     let parts = both (is_idle (node_at nodes i).standing) (int_lt best (node_at nodes i).bound) t in
@@ -101,9 +104,7 @@ not_ready_by nodes best i f ready =
     let no : (is_idle (node_at nodes i).standing && int_lt best (node_at nodes i).bound) ≡ true = rw (idle, test) refl in
     absurd cc
 
--- there is a candidate where one is on top
-pub some_there : (cs : List Candidate) (node : ℕ) → IsTop cs node → 0 < length cs
-some_there cs node top = let lt = slice_get_within cs 0 top.top top.is_there in omega arith
+-- ---- what the code begins with, and what it saw
 
 -- the root alone
 pub root_candidates : (bound best : ℤ) (cs : List Candidate) → IsPermutation (candidate bound 0 ∷ []) cs → IsHeap candidate_order cs → AreCandidates (child 0 no_pair bound ∷ []) best cs

@@ -1,11 +1,11 @@
 -- The candidates after a take and after a report.
-use Rattle.std.proofs.Common.{◌≡◌, ◌≢◌, ℕ, ◌+◌, ◌<◌, ◌≤◌, List, [], ◌∷◌, ◌++◌, length, inl, inr, ◌⊎◌, arith, sym, ◌∙◌, Some, None, Option, refl, ap, subst, Bool, true, false, All, Contains, IsPermutation, length-set, length-append}
-use Rattle.std.specs.Prelude.{slice_get, ℤ, ◌<ℤ◌, ◌≤ℤ◌, IfSome, IfNone, int_lt, if◌then◌else◌}
+use Rattle.std.proofs.Common.{◌≡◌, ◌≢◌, ℕ, ◌+◌, ◌<◌, List, [], ◌∷◌, ◌++◌, length, inl, inr, ◌⊎◌, arith, sym, ◌∙◌, Some, None, Option, refl, ap, subst, Bool, true, false, All, Contains, IsPermutation, length-set, length-append}
+use Rattle.std.specs.Prelude.{slice_get, ℤ, ◌≤ℤ◌, IfSome, IfNone, int_lt, if◌then◌else◌}
 use Rattle.std.specs.BinaryHeap.{IsHeap}
 use Rattle.std.proofs.lemmas.Int.{ints}
-use Rattle.std.proofs.lemmas.Option.{get_or_from_slice_get, slice_get_within, same_Some}
+use Rattle.std.proofs.lemmas.Option.{get_or_from_slice_get, slice_get_within}
 use Rattle.std.proofs.lemmas.List.Sorted.{All-permutation, Contains-permutation}
-use Rattle.std.proofs.lemmas.List.Elements.{All-cons, All-tail, Contains-append_right}
+use Rattle.std.proofs.lemmas.List.Elements.{All-cons, Contains-append_right}
 use Rattle.lop_model.specs.declared.pair.Pair.{Pair}
 use Rattle.lop_core.specs.declared.node.SearchNode.{SearchNode}
 use Rattle.lop_core.specs.declared.node.Standing.{Standing}
@@ -14,7 +14,7 @@ use Rattle.lop_core.specs.declared.candidates.Candidate.{Candidate}
 use Rattle.lop_core.specs.Tree.{reversed, child, node_at}
 use Rattle.lop_core.specs.Machine.{IsReady, changed, closed, divided, settled_nodes}
 use Rattle.lop_core.specs.Candidates.{AreCandidates, IsTop, candidate, candidate_order}
-use Rattle.lop_core.proofs.Lists.{slice_get-set_same, slice_get-set_cases, slice_get_at, slice_get_two_cases, slice_get_two_second}
+use Rattle.lop_core.proofs.Lists.{slice_get-set_cases, slice_get_two_cases}
 use Rattle.lop_core.proofs.CandidateLemmas.{drop_stale}
 
 -- a node that is ready after another one changed: it was ready before, with its bound

@@ -1,15 +1,14 @@
 -- The steps of the scans over the nodes.
-use Rattle.std.proofs.Common.{◌≡◌, ℕ, ◌+◌, ◌<◌, ◌≤◌, List, length, take, inl, inr, arith, sym, ◌∙◌, Some, None, Option, refl, ap, subst, Bool, true, false}
-use Rattle.std.specs.Prelude.{slice_get, ℤ, pos, ◌<ℤ◌, ◌≤ℤ◌, IfSome, IfNone, not, ◌&&◌, int_lt, fold}
+use Rattle.std.proofs.Common.{◌≡◌, ℕ, ◌+◌, ◌<◌, ◌≤◌, List, length, take, inl, inr, arith, sym, ◌∙◌, refl, ap, subst, Bool, true, false}
+use Rattle.std.specs.Prelude.{slice_get, ℤ, pos, ◌<ℤ◌, not, ◌&&◌, int_lt, fold}
 use Rattle.std.proofs.lemmas.Int.{ints}
 use Rattle.std.proofs.lemmas.Bool.{cases_lt}
 use Rattle.std.proofs.lemmas.Option.{slice_get-get_or, slice_get_within, get_or_from_slice_get}
 use Rattle.std.proofs.lemmas.List.{take_more}
 use Rattle.std.proofs.lemmas.List.Sums.{fold_push}
 use Rattle.lop_core.specs.declared.node.SearchNode.{SearchNode}
-use Rattle.lop_core.specs.declared.node.Standing.TheVariants.{Idle}
 use Rattle.lop_core.specs.Tree.{no_pair, child, node_at, is_split}
-use Rattle.lop_core.specs.Machine.{IsReady, IsLive, IsFirstReady, raised_by}
+use Rattle.lop_core.specs.Machine.{IsLive, raised_by}
 
 -- ---- live nodes
 

@@ -18,16 +18,16 @@ abbrev pub candidate_order : Candidate → Candidate → Ordering
 candidate_order a b = ordering_then (int_cmp a.bound b.bound) (nat_cmp b.node.0 a.node.0)
 
 -- the candidates, in the order in which the heap has them
-abbrev pub listed : Candidates → List Candidate
-listed c = heap_items c.heap
+abbrev pub candidates_of : Candidates → List Candidate
+candidates_of c = heap_items c.heap
 
 -- how many candidates there are
-abbrev pub count_of : Candidates → ℕ
-count_of c = heap_len c.heap
+abbrev pub candidate_count : Candidates → ℕ
+candidate_count c = heap_len c.heap
 
 -- for how many there is room
-abbrev pub room_of : Candidates → ℕ
-room_of c = heap_capacity c.heap
+abbrev pub candidate_room : Candidates → ℕ
+candidate_room c = heap_capacity c.heap
 
 -- the candidate on top names the node
 pub record IsTop (cs : List Candidate) (node : ℕ) : Type 0 where
@@ -44,6 +44,6 @@ pub record AreCandidates (nodes : List SearchNode) (best : ℤ) (cs : List Candi
 
 -- the candidates of a state of which so many nodes are out, and their room: for one more than the budget, and the candidates and the nodes that are out are at most one more than the evaluated nodes
 pub record HasCandidates (s : SearchState) (budget out : ℕ) (c : Candidates) : Type 0 where
-  pub kept : AreCandidates s.nodes s.best (listed c)
-  pub few : count_of c + out ≤ s.evaluated + 1
-  pub room : budget + 1 ≤ room_of c
+  pub kept : AreCandidates s.nodes s.best (candidates_of c)
+  pub few : candidate_count c + out ≤ s.evaluated + 1
+  pub room : budget + 1 ≤ candidate_room c

@@ -86,7 +86,8 @@ impl Model for Core {
 
 impl Core {
     /// Copies the weights and the order, and takes all the memory that the search will need: room for 2 * budget + 1
-    /// nodes, 2 * budget entries, a path, 4,096 + min(1,024 * budget, 67,108,864) terms and 65,536 cuts. The root is idle, with the pair bound. O(n² + budget).
+    /// nodes, 2 * budget entries, budget + 1 candidates, a path, 4,096 + min(1,024 * budget, 67,108,864) terms and
+    /// 65,536 cuts. The root is idle, with the pair bound. O(n² + budget).
     pub fn prepare(
         alloc: Global,
         weights: &Weights,
@@ -126,8 +127,9 @@ impl Core {
         })
     }
 
-    /// Hands out the live idle node with the greatest bound, and of several the one with the lowest number.
-    /// O(the number of nodes).
+    /// Hands out the live idle node with the greatest bound, and of several the one with the lowest number. O(log of the
+    /// number of candidates) for it and for each candidate that is dropped, which each is once at most, and O(the path
+    /// and the terms) for the ticket. Where no node is ready, O(the number of nodes).
     pub fn take(&mut self, worker: u32, into: &mut Ticket) -> TakeReply
         requires same_n { into.old.size ≡ self.old.problem.weights.size }
         ensures step { IsTake self.old into.old worker result self.new into.new }
@@ -159,7 +161,8 @@ impl Core {
         TakeReply::Node
     }
 
-    /// Takes in what a worker found at a node that is out to it. O(n).
+    /// Takes in what a worker found at a node that is out to it. O(n), and O(log of the number of candidates) where the
+    /// node is split.
     pub fn report(&mut self, worker: u32, found: &Evaluated) -> ReportReply
         requires sound { IsOutTo self.old.state worker found.now.node → IsSoundReport self.old found.now }
         ensures step { IsReport self.old worker found.now result self.new }

@@ -9,7 +9,7 @@ use Rattle.lop_core.specs.Core.{CoreFields, IsSoundReport}
 use Rattle.lop_core.specs.contracts.search.Core.{the_view}
 use Rattle.lop_core.proofs.CoreLemmas.{core_counted, report_counts, out_to, not_out_to, not_there, Leaves, leaves_by, left_true, left_outs, left_noted, left_keeps, kept_is, room_is, taken_is, report_facts, report_laws, report_candidates, if_some}
 use Rattle.lop_core.proofs.BookLemmas.{GrownBook, grown_by}
-use Rattle.lop_core.specs.Candidates.{listed}
+use Rattle.lop_core.specs.Candidates.{candidates_of}
 use Rattle.lop_core.specs.Kept.{book_of, record_of}
 use Rattle.lop_leaf.specs.Record.{IsScaledTerms}
 use Rattle.std.proofs.lemmas.List.{length-map}
@@ -150,7 +150,7 @@ invariant_of-self c =
       c.inherit.ensures.kept,
       c.inherit.ensures.term_room ∙ c.offer-room.ensures.term_room ∙ c.self.invariant.5,
       record {
-        kept = report_candidates (the_view c.self.inside) c.args.worker c.args.found.now _ _ _ _ c.settle-split.result _ (listed c.self.inside.candidates) (listed c.put_children.new.self) l
+        kept = report_candidates (the_view c.self.inside) c.args.worker c.args.found.now _ _ _ _ c.settle-split.result _ (candidates_of c.self.inside.candidates) (candidates_of c.put_children.new.self) l
             c.self.invariant.0 c.self.invariant.1 few out sound c.self.invariant.6.kept (to_z-of_z w128 c.either-bound.result fk ∙ c.either-bound.ensures ∙ kept)
             c.settle-split.ensures.first c.settle-split.ensures.closed c.put_children.ensures.split c.put_children.ensures.closed (c.put_children.ensures.ordered c.self.invariant.6.kept.ordered);
         few = omega (arith, c.self.invariant.3, c.self.invariant.6.few, c.put_children.ensures.count, report_counts (the_view c.self.inside) c.args.worker c.args.found.now.node c.self.invariant.0 out);

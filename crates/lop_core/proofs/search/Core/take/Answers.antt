@@ -4,9 +4,9 @@ use Rattle.std.proofs.lemmas.Option.{slice_get_within}
 use mir.Syntax.{w128}
 use Rattle.lop_core.specs.Tree.{AreLinked, out_count}
 use Rattle.lop_core.specs.Core.{CoreFields, HasHistory}
-use Rattle.lop_core.specs.Candidates.{listed}
+use Rattle.lop_core.specs.Candidates.{candidates_of}
 use Rattle.lop_core.specs.contracts.search.Core.{the_view}
-use Rattle.lop_core.proofs.CandidateLemmas.{candidates_in, some_there}
+use Rattle.lop_core.proofs.CandidateLemmas.{candidates_in}
 use Rattle.lop_core.proofs.CandidateSteps.{taken_candidates}
 use Rattle.lop_core.proofs.Linked.{core_linked}
 use Rattle.lop_core.proofs.BookLemmas.{take_recorded}
@@ -126,7 +126,7 @@ invariant_of-self-2 c =
       c.self.invariant.4,
       c.self.invariant.5,
       record {
-        kept = taken_candidates c.self.inside.nodes.items c.self.inside.best c.in-Some.node c.args.worker (listed c.first_ready.new.self) (listed c.remove_top.new.self) _
+        kept = taken_candidates c.self.inside.nodes.items c.self.inside.best c.in-Some.node c.args.worker (candidates_of c.first_ready.new.self) (candidates_of c.remove_top.new.self) _
             (candidates_in c.self.inside.nodes.items c.deref.result.now c.self.inside.best _ _ c.deref.ensures.value (to_z-of_z w128 c.self.inside.best f) c.first_ready.ensures.kept)
             c.in-Some.ensures.top inside c.remove_top.ensures.less (c.remove_top.ensures.ordered c.first_ready.ensures.kept.ordered) nodes;
         few = omega (arith, c.self.invariant.6.few, c.first_ready.ensures.count, c.remove_top.ensures.count);

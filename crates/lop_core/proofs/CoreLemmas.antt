@@ -1,5 +1,5 @@
 -- A core keeps its history over a take and a report, and it has room for the entry and the nodes.
-use Rattle.std.proofs.Common.{◌≡◌, ℕ, ◌+◌, ◌*◌, ◌<◌, ◌≤◌, List, [], ◌∷◌, ◌++◌, length, get_or, set, arith, sym, ◌∙◌, Some, None, Option, refl, ap, subst, Bool, true, false}
+use Rattle.std.proofs.Common.{◌≡◌, ℕ, ◌+◌, ◌*◌, ◌<◌, ◌≤◌, List, [], ◌∷◌, ◌++◌, length, get_or, set, arith, sym, ◌∙◌, Some, None, Option, refl, ap, subst, Bool, true, false, IsPermutation}
 use Rattle.std.proofs.lemmas.List.{get_or_read, get_or_default, length_push}
 use Rattle.std.proofs.lemmas.Option.{slice_get_read, get_or_from_slice_get, slice_get_within}
 use Rattle.std.specs.Prelude.{slice_get, ℤ, pos, ◌≤ℤ◌, fold, int_lt, IfSome, IfNone, if◌then◌else◌, ◌↔◌}
@@ -28,6 +28,10 @@ use Rattle.lop_core.specs.Tree.{no_pair, child, node_at, path_of, is_out, out_co
 use Rattle.lop_core.specs.Machine.{Problem, SearchState, changed, after, settled, divided, closed, settled_nodes, IsOutTo, IsReady, IsLive, IsFirstReady, raised_by, state_bound}
 use Rattle.lop_core.specs.Journal.{AreCounted, room_count, IsWithinPackingBound, MayTake, MayReport, MayFollow, HasTake, HasReport, entries_of}
 use Rattle.lop_core.specs.Core.{CoreFields, prepared, root_book, HasHistory, AreRecorded, with_entry, IsTicketOf, IsHandedOut, IsSoundReport, ticket_of, has_room_for, entry_of, KeepsOrder}
+use Rattle.std.specs.BinaryHeap.{IsHeap}
+use Rattle.lop_core.specs.declared.candidates.Candidate.{Candidate}
+use Rattle.lop_core.specs.Candidates.{AreCandidates, candidate, candidate_order}
+use Rattle.lop_core.proofs.CandidateSteps.{reported_candidates}
 use Rattle.lop_core.proofs.Replay.{replay_push, IsLawful_push, sound_replay, covered_once, weight-le-state_bound}
 use Rattle.lop_core.proofs.Fates.{out_exactly}
 use Rattle.lop_core.proofs.Sound.{count_changed, one_if}
@@ -402,3 +406,24 @@ take_on_node core new w i ticket h kept book lt en e first =
 -- the answer of the scan is the state's bound
 pub bound_found : (s : SearchState) (seen : List SearchNode) (best z z' : ℤ) → seen ≡ s.nodes → best ≡ s.best → z' ≡ z → z ≡ fold raised_by best seen → z' ≡ state_bound s
 bound_found s seen best z z' en eb ez e = ez ∙ (rw (en, eb) at e)
+
+-- where no pair is left, the bound that is kept is at most the greater weight
+pub report_low : (view : CoreFields) (w : ℕ) (found : EvaluatedFields) → HasHistory view → AreRecorded view → IsScaledTerms found.shown → IsOutTo view.state w found.node → IsSoundReport view found
+    → IfNone found.pair (kept_bound view found ≤ℤ int_max view.state.best found.value)
+report_low view w found h kept few out sound = let may = may_report view w found h kept few out sound in go found.pair may.all_decided may.decided_room where
+  go : (p : Option Pair) → IfNone p (AreAllDecided view.problem.weights.size (path_of view.state.nodes found.node) × (found.value ≡ found.bound)) → IfNone p (has_room_for view found ≡ true)
+      → IfNone p (kept_bound view found ≤ℤ int_max view.state.best found.value)
+  go None d k = rw k (subst (λ (b : ℤ). b ≤ℤ int_max view.state.best found.value) d.1 (omega (arith, ints, clamps)))
+  go (Some p) d k = tt
+
+-- the candidates after a report, by the bound as the code passed it on
+pub report_candidates : (view : CoreFields) (w : ℕ) (found : EvaluatedFields) (nodes : List SearchNode) (best : ℤ) (journal : List Entry) (order : List ℕ) (split : Option ℕ) (zk : ℤ) (cs more : List Candidate) → Leaves view w found nodes best journal order
+    → HasHistory view → AreRecorded view → IsScaledTerms found.shown → IsOutTo view.state w found.node → IsSoundReport view found → AreCandidates view.state.nodes view.state.best cs → zk ≡ kept_bound view found
+    → IfSome split (λ first. (first ≡ length view.state.nodes) × (length nodes ≡ length view.state.nodes + 2)) → IfNone split (length nodes ≡ length view.state.nodes)
+    → IfSome split (λ first. IsPermutation (candidate zk (first + 1) ∷ candidate zk first ∷ cs) more) → IfNone split (more ≡ cs) → IsHeap candidate_order more → AreCandidates nodes best more
+report_candidates view w found nodes best journal order split zk cs more leaves h kept few out sound candidates ek grows stays put same heap =
+    let inside : found.node < length view.state.nodes = slice_get_within view.state.nodes found.node out.0 out.1 in
+    let low = subst (λ (b : ℤ). IfNone found.pair (kept_bound view found ≤ℤ b)) (sym leaves.best_is) (report_low view w found h kept few out sound) in
+    let rises : view.state.best ≤ℤ best = rw leaves.best_is (omega (arith, ints, clamps)) in
+    let put' = subst (λ (z : ℤ). IfSome split (λ first. IsPermutation (candidate z (first + 1) ∷ candidate z first ∷ cs) more)) ek put in
+    reported_candidates view.state.nodes view.state.best best (kept_bound view found) found.node found.pair split nodes cs more candidates inside rises low leaves.nodes_are grows stays put' same heap

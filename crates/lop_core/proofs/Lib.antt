@@ -9,6 +9,8 @@ pub mod Fates
 pub mod Counts
 pub mod Linked
 pub mod Scans
+pub mod CandidateLemmas
+pub mod CandidateSteps
 pub mod PackedLemmas
 pub mod Certified
 pub mod BookLemmas

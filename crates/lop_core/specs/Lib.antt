@@ -3,6 +3,7 @@ pub mod Machine
 pub mod Records
 pub mod CutIndex
 pub mod Kept
+pub mod Candidates
 pub mod Journal
 pub mod Core
 pub mod Outcome

@@ -1,6 +1,7 @@
 //! The search machine: nodes, what is handed out, what is reported, and the journal of it all.
 #![tactic(auto)]
 
+mod candidates;
 mod cut_index;
 mod journal;
 mod node;

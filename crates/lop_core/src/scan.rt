@@ -1,27 +1,9 @@
 // Scans over the nodes.
 ghost use Rattle.std.specs.Prelude.{◌≡◌, ℕ, ◌<◌, ◌^◌, length, fold, not, ◌&&◌, int_lt, IfSome, IfNone};
 ghost use Rattle.lop_core.specs.Tree.{is_split, is_idle};
-ghost use Rattle.lop_core.specs.Machine.{IsReady, IsLive, IsFirstReady, live_count, ready_count, raised_by};
+ghost use Rattle.lop_core.specs.Machine.{IsLive, live_count, ready_count, raised_by};
 
 use crate::node::{SearchNode, Standing};
-
-/// The live idle node with the greatest bound, and of several the one with the lowest number. O(the number of nodes).
-pub fn best_ready(nodes: &[SearchNode], best: i128) -> Option<usize>
-    ensures found { IfSome result (λ node. IsFirstReady nodes.now best node) }
-    ensures none { IfNone result ((node : ℕ) → ¬ (IsReady nodes.now best node)) }
-{
-    let mut found: Option<usize> = None;
-    let mut top = best;
-    for (i, node) in nodes.iter().enumerate() {
-        if let Standing::Idle = node.standing {
-            if node.bound > top {
-                found = Some(i);
-                top = node.bound;
-            }
-        }
-    }
-    found
-}
 
 /// Whether the node isn't split and its bound exceeds best.
 fn is_live(node: SearchNode, best: i128) -> bool
@@ -34,7 +16,7 @@ fn is_live(node: SearchNode, best: i128) -> bool
 }
 
 /// Whether the node is idle and its bound exceeds best.
-fn is_ready(node: SearchNode, best: i128) -> bool
+pub fn is_ready(node: SearchNode, best: i128) -> bool
     ensures { result ≡ (is_idle node.standing && int_lt best node.bound) }
 {
     match node.standing {

@@ -15,13 +15,14 @@ ghost use Rattle.lop_core.specs.AllOrders.{factorial};
 ghost use Rattle.lop_core.specs.Core.{CoreFields, HasHistory, IsTake, OnNode, IsReport, IsSoundReport, AreRecorded, prepared, view_of};
 ghost use Rattle.lop_core.specs.Records.{IsNodeRecord, IsRecordBook, cut_at, record_at, scaled_of};
 
+use crate::candidates::Candidates;
 use crate::journal::Entry;
 use crate::node::{NodeView, SearchNode, Standing};
 use crate::path::fill_ticket;
 use crate::records::Records;
 use crate::reply::{ReportReply, TakeReply};
 use crate::room::put_last;
-use crate::scan::{best_ready, count_live, count_ready, first_live, greatest_bound};
+use crate::scan::{count_live, count_ready, first_live, greatest_bound};
 use crate::settle::{child, either, is_out_to, keep_better, settle};
 use crate::start::root_bound;
 use lop_cuts::Cut;
@@ -47,6 +48,7 @@ pub struct Core {
     path: Vec<Pair>,
     records: Records,
     inherited: LeafRecord,
+    candidates: Candidates,
 }
 
 impl Model for Core {
@@ -55,6 +57,7 @@ impl Model for Core {
     ghost use Rattle.lop_core.specs.Records.{term_room};
     ghost use Rattle.lop_core.specs.Core.{CoreFields, HasHistory, AreRecorded, HasRoom};
     ghost use Rattle.lop_core.specs.Tree.{out_count};
+    ghost use Rattle.lop_core.specs.Candidates.{HasCandidates};
 
     ghost Value = { CoreFields };
 
@@ -78,12 +81,13 @@ impl Model for Core {
       journal = c.journal.items;
       order = c.order;
       book = book_of c.records;
-    }) × HasRoom c.weights.size c.budget (vec_capacity c.nodes) (vec_capacity c.journal) (vec_capacity c.path) (vec_capacity c.records.spans) × (c.out ≡ out_count c.nodes.items) × AreKept c.records × (c.records.term_room ≡ term_room c.budget) };
+    }) × HasRoom c.weights.size c.budget (vec_capacity c.nodes) (vec_capacity c.journal) (vec_capacity c.path) (vec_capacity c.records.spans) × (c.out ≡ out_count c.nodes.items) × AreKept c.records × (c.records.term_room ≡ term_room c.budget) × HasCandidates (record { nodes = c.nodes.items; best = c.best; evaluated = c.evaluated }) c.budget c.out c.candidates };
 }
 
 impl Core {
     /// Copies the weights and the order, and takes all the memory that the search will need: room for 2 * budget + 1
-    /// nodes, 2 * budget entries, a path, 4,096 + min(1,024 * budget, 67,108,864) terms and 65,536 cuts. The root is idle, with the pair bound. O(n² + budget).
+    /// nodes, 2 * budget entries, budget + 1 candidates, a path, 4,096 + min(1,024 * budget, 67,108,864) terms and
+    /// 65,536 cuts. The root is idle, with the pair bound. O(n² + budget).
     pub fn prepare(
         alloc: Global,
         weights: &Weights,
@@ -104,6 +108,8 @@ impl Core {
         let mut kept = Order::first(alloc, n)?;
         kept.copy_from(order);
         let pairs = n as usize * (n as usize).saturating_sub(1) / 2;
+        let mut candidates = Candidates::with_room(alloc, budget as usize + 1)?;
+        candidates.put(0, bound);
         Ok(Core {
             weights: weights.copy()?,
             start: best,
@@ -117,17 +123,19 @@ impl Core {
             path: Vec::with_capacity(alloc, pairs)?,
             records: Records::prepare(alloc, budget)?,
             inherited: LeafRecord::new(alloc)?,
+            candidates,
         })
     }
 
-    /// Hands out the live idle node with the greatest bound, and of several the one with the lowest number.
-    /// O(the number of nodes).
+    /// Hands out the live idle node with the greatest bound, and of several the one with the lowest number. O(log of the
+    /// number of candidates) for it and for each candidate that is dropped, which each is once at most, and O(the path
+    /// and the terms) for the ticket. Where no node is ready, O(the number of nodes).
     pub fn take(&mut self, worker: u32, into: &mut Ticket) -> TakeReply
         requires same_n { into.old.size ≡ self.old.problem.weights.size }
         ensures step { IsTake self.old into.old worker result self.new into.new }
         ensures on_node { OnNode self.old worker result self.new into.new }
     {
-        let Some(index) = best_ready(&self.nodes, self.best) else {
+        let Some(node) = self.candidates.first_ready(&self.nodes, self.best) else {
             return match first_live(&self.nodes, self.best) {
                 Some(_) => TakeReply::AllOut,
                 None => TakeReply::Done,
@@ -136,7 +144,8 @@ impl Core {
         if self.evaluated + self.out >= self.budget {
             return TakeReply::Spent;
         }
-        let node = index as u32;
+        let index = node as usize;
+        self.candidates.remove_top();
         self.records.read(index, &mut self.inherited);
         fill_ticket(
             &self.nodes,
@@ -152,7 +161,8 @@ impl Core {
         TakeReply::Node
     }
 
-    /// Takes in what a worker found at a node that is out to it. O(n).
+    /// Takes in what a worker found at a node that is out to it. O(n), and O(log of the number of candidates) where the
+    /// node is split.
     pub fn report(&mut self, worker: u32, found: &Evaluated) -> ReportReply
         requires sound { IsOutTo self.old.state worker found.now.node → IsSoundReport self.old found.now }
         ensures step { IsReport self.old worker found.now result self.new }
@@ -185,6 +195,7 @@ impl Core {
         let bound = either(room, found.bound(), self.nodes[index].bound);
         let split = settle(&mut self.nodes, node, bound, pair, self.best);
         self.records.inherit(index, split);
+        self.candidates.put_children(split, bound);
         match split {
             Some(first) => ReportReply::Split(first),
             None => ReportReply::Closed,

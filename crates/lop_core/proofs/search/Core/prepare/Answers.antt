@@ -1,4 +1,4 @@
-use Rattle.std.proofs.Common.{rules, ◌≡◌, ◌-◌, ◌*◌, [], ◌∷◌, ◌++◌, length, arith, sym, ◌∙◌, ap, subst, FitsSigned, to_z, of_z}
+use Rattle.std.proofs.Common.{rules, ◌≡◌, ℤ, List, IsPermutation, ◌-◌, ◌*◌, [], ◌∷◌, ◌++◌, length, arith, sym, ◌∙◌, ap, subst, FitsSigned, to_z, of_z}
 use Rattle.std.proofs.lemmas.Int.{to_z-of_z}
 use Rattle.std.proofs.lemmas.List.FromFn.{length-range_with_len}
 use mir.Syntax.{w128}
@@ -7,6 +7,9 @@ use Rattle.lop_model.specs.Matrix.{Matrix}
 use Rattle.lop_core.specs.declared.node.SearchNode.{SearchNode}
 use Rattle.lop_model.specs.Bound.{pair_bound}
 use Rattle.lop_core.specs.Tree.{no_pair, child}
+use Rattle.lop_core.specs.declared.candidates.Candidate.{Candidate}
+use Rattle.lop_core.specs.Candidates.{AreCandidates, candidate, candidates_of}
+use Rattle.lop_core.proofs.CandidateLemmas.{root_candidates}
 use Rattle.lop_core.proofs.CoreLemmas.{made}
 use Rattle.lop_core.proofs.search.Core.prepare.Goals as goal
 
@@ -29,6 +32,8 @@ invariant_of-result-2 c =
     let product : c.n-n.result * c.saturating_sub.result ≡ c.n-n.result * (c.n-n.result - 1) = ap (λ k. c.n-n.result * k) less in
     let size : c.in_ok-copy.field-0.size ≡ c.n-n.result = ap (λ (m : Matrix). m.size) same ∙ sym (c.n-n.ensures.size ∙ c.requires.same_n) in
     let journal : c.in_ok-with_capacity.field-0.items ≡ [] = search rules in
+    let put = subst (λ (cs : List Candidate). IsPermutation (candidate (pair_bound c.args.weights.now []) 0 ∷ cs) (candidates_of c.put.new.self)) c.in_ok-candidates.ensures.empty
+    (subst (λ (b : ℤ). IsPermutation (candidate b 0 ∷ candidates_of c.in_ok-candidates.candidates) (candidates_of c.put.new.self)) bound c.put.ensures.more) in
     let kept = made c.in_ok-copy.field-0 c.args.weights.now c.args.budget _ c.put_last.new.list.items c.in_ok-with_capacity.field-0.items _ c.args.order.now _ same start order nodes journal (c.kept.view_is ∙ c.copy_from.ensures) c.in_ok-prepare.ensures.book in (
       kept.0,
       kept.1,
@@ -43,4 +48,10 @@ invariant_of-result-2 c =
       kept.2,
       c.in_ok-prepare.ensures.kept,
       c.in_ok-prepare.ensures.term_room,
+      record {
+        kept = subst (λ (ns : List SearchNode). AreCandidates ns (to_z w128 (of_z w128 c.value-best.result)) (candidates_of c.put.new.self)) (sym nodes)
+            (root_candidates (pair_bound c.args.weights.now []) _ (candidates_of c.put.new.self) put (c.put.ensures.ordered c.in_ok-candidates.ensures.ordered));
+        few = omega (arith, c.put.ensures.count, c.in_ok-candidates.ensures.count);
+        room = omega (arith, c.put.ensures.room, c.in_ok-candidates.ensures.room);
+      },
     )

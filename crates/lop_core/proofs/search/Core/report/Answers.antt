@@ -1,13 +1,15 @@
 use Rattle.std.proofs.Common.{rules, ◌≡◌, ◌<◌, ◌≤◌, length, arith, sym, ◌∙◌, ap, subst, FitsSigned, refl, true, false, to_z, of_z}
 use Rattle.std.proofs.lemmas.Int.{to_z-of_z}
+use Rattle.std.proofs.lemmas.Option.{IfSome_then}
 use mir.Syntax.{w128}
 use Rattle.lop_core.specs.declared.node.Standing.TheVariants.{Out}
 use Rattle.lop_core.specs.Machine.{IsOutTo}
 use Rattle.lop_core.specs.Records.{with_children}
 use Rattle.lop_core.specs.Core.{CoreFields, IsSoundReport}
 use Rattle.lop_core.specs.contracts.search.Core.{the_view}
-use Rattle.lop_core.proofs.CoreLemmas.{core_counted, report_counts, out_to, not_out_to, not_there, Leaves, leaves_by, left_true, left_outs, left_noted, left_keeps, kept_is, room_is, taken_is, report_facts, report_laws, if_some}
+use Rattle.lop_core.proofs.CoreLemmas.{core_counted, report_counts, out_to, not_out_to, not_there, Leaves, leaves_by, left_true, left_outs, left_noted, left_keeps, kept_is, room_is, taken_is, report_facts, report_laws, report_candidates, if_some}
 use Rattle.lop_core.proofs.BookLemmas.{GrownBook, grown_by}
+use Rattle.lop_core.specs.Candidates.{candidates_of}
 use Rattle.lop_core.specs.Kept.{book_of, record_of}
 use Rattle.lop_leaf.specs.Record.{IsScaledTerms}
 use Rattle.std.proofs.lemmas.List.{length-map}
@@ -94,6 +96,22 @@ inherit-requires-clause-room c =
     let one = report_counts (the_view c.self.inside) c.args.worker c.node-node.result c.self.invariant.0 own in
     if_some c.settle-split.result (omega (arith, spans, h.size, h.splits, h.within, one, c.self.invariant.2.for_records, c.offer-room.ensures.for_nodes))
 
+pub put_children-requires-clause-room : goal.put_children-requires-clause-room
+put_children-requires-clause-room c =
+    let lt : c.node-node.result < length c.self.inside.nodes.items = omega (arith, c.len.ensures, c.if-index-len.false) in
+    let out = out_to (the_view c.self.inside).state c.args.worker c.node-node.result c.index.result.now lt c.index.ensures (c.if-not-is_out_to.ensures.0 refl) in
+    let h = core_counted _ c.self.invariant.0 in
+    let one = report_counts (the_view c.self.inside) c.args.worker c.node-node.result c.self.invariant.0 out in
+    if_some c.settle-split.result (omega (arith, h.within, one, c.self.invariant.3, c.self.invariant.6.few, c.self.invariant.6.room))
+
+pub put_children-requires-clause-small : goal.put_children-requires-clause-small
+put_children-requires-clause-small c =
+    let lt : c.node-node.result < length c.self.inside.nodes.items = omega (arith, c.len.ensures, c.if-index-len.false) in
+    let out = out_to (the_view c.self.inside).state c.args.worker c.node-node.result c.index.result.now lt c.index.ensures (c.if-not-is_out_to.ensures.0 refl) in
+    let h = core_counted _ c.self.invariant.0 in
+    let one = report_counts (the_view c.self.inside) c.args.worker c.node-node.result c.self.invariant.0 out in
+    IfSome_then c.settle-split.result c.settle-split.ensures.first (λ first p. omega (arith, p.0, h.size, h.splits, h.within, one, c.self.invariant.2.within_limit))
+
 pub invariant_of-self : goal.invariant_of-self
 invariant_of-self c =
     let lt : c.node-node.result < length c.self.inside.nodes.items = omega (arith, c.len.ensures, c.if-index-len.false) in
@@ -131,6 +149,13 @@ invariant_of-self c =
       omega (arith, c.self.invariant.3, left_outs (the_view c.self.inside) c.args.worker c.args.found.now _ _ _ _ l c.self.invariant.0 c.self.invariant.1 few out sound),
       c.inherit.ensures.kept,
       c.inherit.ensures.term_room ∙ c.offer-room.ensures.term_room ∙ c.self.invariant.5,
+      record {
+        kept = report_candidates (the_view c.self.inside) c.args.worker c.args.found.now _ _ _ _ c.settle-split.result _ (candidates_of c.self.inside.candidates) (candidates_of c.put_children.new.self) l
+            c.self.invariant.0 c.self.invariant.1 few out sound c.self.invariant.6.kept (to_z-of_z w128 c.either-bound.result fk ∙ c.either-bound.ensures ∙ kept)
+            c.settle-split.ensures.first c.settle-split.ensures.closed c.put_children.ensures.split c.put_children.ensures.closed (c.put_children.ensures.ordered c.self.invariant.6.kept.ordered);
+        few = omega (arith, c.self.invariant.3, c.self.invariant.6.few, c.put_children.ensures.count, report_counts (the_view c.self.inside) c.args.worker c.args.found.now.node c.self.invariant.0 out);
+        room = omega (arith, c.self.invariant.6.room, c.put_children.ensures.room);
+      },
     )
 
 pub returns : goal.returns

@@ -4,7 +4,10 @@ use Rattle.std.proofs.lemmas.Option.{slice_get_within}
 use mir.Syntax.{w128}
 use Rattle.lop_core.specs.Tree.{AreLinked, out_count}
 use Rattle.lop_core.specs.Core.{CoreFields, HasHistory}
+use Rattle.lop_core.specs.Candidates.{candidates_of}
 use Rattle.lop_core.specs.contracts.search.Core.{the_view}
+use Rattle.lop_core.proofs.CandidateLemmas.{candidates_in}
+use Rattle.lop_core.proofs.CandidateSteps.{taken_candidates}
 use Rattle.lop_core.proofs.Linked.{core_linked}
 use Rattle.lop_core.proofs.BookLemmas.{take_recorded}
 use Rattle.lop_core.proofs.CoreLemmas.{core_counted, core_take, core_path_length, may_take, written_out, take_view, take_outs, take_step, take_on_node, ticket_is, first_in, live_in, never_live, never_ready}
@@ -29,43 +32,35 @@ overflow_add-self-inside c =
     let h = core_counted _ c.self.invariant.0 in
     omega (arith, h.within, c.self.invariant.2.within_limit, c.self.invariant.3)
 
-pub overflow_cast-node : goal.overflow_cast-node
-overflow_cast-node c =
-    let h = core_counted _ c.self.invariant.0 in
-    let r = c.in-Some.ensures.found.ready in
-    let lt : c.in-Some.index < length c.deref.result.now = slice_get_within c.deref.result.now c.in-Some.index r.it r.is_there in
-    let d : length c.deref.result.now ≡ length c.self.inside.nodes.items = ap length c.deref.ensures.value in
-    omega (arith, h.size, h.splits, h.within, c.self.invariant.2.within_limit)
-
 pub fill_ticket-requires-clause-linked : goal.fill_ticket-requires-clause-linked
 fill_ticket-requires-clause-linked c = subst AreLinked (sym c.deref-2.ensures.value) (core_linked _ c.self.invariant.0)
 
 pub fill_ticket-requires-clause-inside : goal.fill_ticket-requires-clause-inside
 fill_ticket-requires-clause-inside c =
     let r = c.in-Some.ensures.found.ready in
-    let lt : c.in-Some.index < length c.deref.result.now = slice_get_within c.deref.result.now c.in-Some.index r.it r.is_there in
+    let lt : c.in-Some.node < length c.deref.result.now = slice_get_within c.deref.result.now c.in-Some.node r.it r.is_there in
     omega (arith, ap length c.deref.ensures.value, ap length c.deref-2.ensures.value)
 
 pub fill_ticket-requires-clause-room : goal.fill_ticket-requires-clause-room
 fill_ticket-requires-clause-room c =
     let r = c.in-Some.ensures.found.ready in
-    let lt : c.in-Some.index < length c.deref.result.now = slice_get_within c.deref.result.now c.in-Some.index r.it r.is_there in
+    let lt : c.in-Some.node < length c.deref.result.now = slice_get_within c.deref.result.now c.in-Some.node r.it r.is_there in
     let d : length c.deref.result.now ≡ length c.self.inside.nodes.items = ap length c.deref.ensures.value in
-    let most = core_path_length _ c.self.invariant.0 c.in-Some.index (omega arith) in
+    let most = core_path_length _ c.self.invariant.0 c.in-Some.node (omega arith) in
     rw c.deref-2.ensures.value (omega (arith, most, c.self.invariant.2.for_path))
 
 pub fill_ticket-requires-clause-ticket_room : goal.fill_ticket-requires-clause-ticket_room
 fill_ticket-requires-clause-ticket_room c =
     let r = c.in-Some.ensures.found.ready in
-    let lt : c.in-Some.index < length c.deref.result.now = slice_get_within c.deref.result.now c.in-Some.index r.it r.is_there in
+    let lt : c.in-Some.node < length c.deref.result.now = slice_get_within c.deref.result.now c.in-Some.node r.it r.is_there in
     let d : length c.deref.result.now ≡ length c.self.inside.nodes.items = ap length c.deref.ensures.value in
-    let most = core_path_length _ c.self.invariant.0 c.in-Some.index (omega arith) in
+    let most = core_path_length _ c.self.invariant.0 c.in-Some.node (omega arith) in
     rw (c.deref-2.ensures.value, c.requires.same_n, ← c.self.view_is) most
 
 pub index_mut-requires : goal.index_mut-requires
 index_mut-requires c =
     let r = c.in-Some.ensures.found.ready in
-    let lt : c.in-Some.index < length c.deref.result.now = slice_get_within c.deref.result.now c.in-Some.index r.it r.is_there in
+    let lt : c.in-Some.node < length c.deref.result.now = slice_get_within c.deref.result.now c.in-Some.node r.it r.is_there in
     omega (arith, c.deref.ensures.len)
 
 pub put_last-requires : goal.put_last-requires
@@ -75,16 +70,50 @@ put_last-requires c =
 
 pub invariant_of-self : goal.invariant_of-self
 invariant_of-self c =
+    let f : FitsSigned w128 c.self.inside.best = search rules in
+    let h = c.self.invariant.6 in (
+      c.self.invariant.0,
+      c.self.invariant.1,
+      c.self.invariant.2,
+      c.self.invariant.3,
+      c.self.invariant.4,
+      c.self.invariant.5,
+      record {
+        kept = candidates_in c.self.inside.nodes.items c.deref.result.now c.self.inside.best _ _ c.deref.ensures.value (to_z-of_z w128 c.self.inside.best f) c.first_ready.ensures.kept;
+        few = omega (arith, h.few, c.first_ready.ensures.count);
+        room = omega (arith, h.room, c.first_ready.ensures.room);
+      },
+    )
+
+pub invariant_of-self-then-self : goal.invariant_of-self-then-self
+invariant_of-self-then-self c =
+    let f : FitsSigned w128 c.self.inside.best = search rules in
+    let h = c.self.invariant.6 in (
+      c.self.invariant.0,
+      c.self.invariant.1,
+      c.self.invariant.2,
+      c.self.invariant.3,
+      c.self.invariant.4,
+      c.self.invariant.5,
+      record {
+        kept = candidates_in c.self.inside.nodes.items c.deref.result.now c.self.inside.best _ _ c.deref.ensures.value (to_z-of_z w128 c.self.inside.best f) c.first_ready.ensures.kept;
+        few = omega (arith, h.few, c.first_ready.ensures.count);
+        room = omega (arith, h.room, c.first_ready.ensures.room);
+      },
+    )
+
+pub invariant_of-self-2 : goal.invariant_of-self-2
+invariant_of-self-2 c =
     let r = c.in-Some.ensures.found.ready in
     let f : FitsSigned w128 c.self.inside.best = search rules in
-    let may = may_take (the_view c.self.inside).problem (the_view c.self.inside).state c.in-Some.index c.self.inside.out c.deref.result.now _ c.deref.ensures.value (to_z-of_z w128 c.self.inside.best f) c.self.invariant.3 r c.if-self.false in
+    let may = may_take (the_view c.self.inside).problem (the_view c.self.inside).state c.in-Some.node c.self.inside.out c.deref.result.now _ c.deref.ensures.value (to_z-of_z w128 c.self.inside.best f) c.self.invariant.3 r c.if-self.false in
     let d : length c.deref.result.now ≡ length c.self.inside.nodes.items = ap length c.deref.ensures.value in
-    let lt : c.in-Some.index < length c.deref.result.now = slice_get_within c.deref.result.now c.in-Some.index r.it r.is_there in
-    let inside : c.in-Some.index < length c.self.inside.nodes.items = omega arith in
-    let nodes = written_out c.self.inside.nodes.items c.in-Some.index c.args.worker c.index_mut.result.now inside c.index_mut.ensures.value in
-    let history = core_take _ c.args.worker c.in-Some.index c.self.invariant.0 may in (
-      subst HasHistory (sym (take_view _ c.args.worker c.in-Some.index _ _ nodes c.put_last.ensures.items)) history,
-      take_recorded (the_view c.self.inside) _ c.args.worker c.in-Some.index c.self.invariant.1 inside refl nodes refl c.put_last.ensures.items,
+    let lt : c.in-Some.node < length c.deref.result.now = slice_get_within c.deref.result.now c.in-Some.node r.it r.is_there in
+    let inside : c.in-Some.node < length c.self.inside.nodes.items = omega arith in
+    let nodes = written_out c.self.inside.nodes.items c.in-Some.node c.args.worker c.index_mut.result.now inside c.index_mut.ensures.value in
+    let history = core_take _ c.args.worker c.in-Some.node c.self.invariant.0 may in (
+      subst HasHistory (sym (take_view _ c.args.worker c.in-Some.node _ _ nodes c.put_last.ensures.items)) history,
+      take_recorded (the_view c.self.inside) _ c.args.worker c.in-Some.node c.self.invariant.1 inside refl nodes refl c.put_last.ensures.items,
       record {
         positive = c.self.invariant.2.positive;
         within_limit = c.self.invariant.2.within_limit;
@@ -93,9 +122,16 @@ invariant_of-self c =
         for_path = omega (arith, c.self.invariant.2.for_path, c.fill_ticket.ensures.room);
         for_records = c.self.invariant.2.for_records;
       },
-      ap (λ (k : ℕ). k + 1) c.self.invariant.3 ∙ (sym (take_outs _ _ c.args.worker c.in-Some.index may) ∙ sym (ap out_count nodes)),
+      ap (λ (k : ℕ). k + 1) c.self.invariant.3 ∙ (sym (take_outs _ _ c.args.worker c.in-Some.node may) ∙ sym (ap out_count nodes)),
       c.self.invariant.4,
       c.self.invariant.5,
+      record {
+        kept = taken_candidates c.self.inside.nodes.items c.self.inside.best c.in-Some.node c.args.worker (candidates_of c.first_ready.new.self) (candidates_of c.remove_top.new.self) _
+            (candidates_in c.self.inside.nodes.items c.deref.result.now c.self.inside.best _ _ c.deref.ensures.value (to_z-of_z w128 c.self.inside.best f) c.first_ready.ensures.kept)
+            c.in-Some.ensures.top inside c.remove_top.ensures.less (c.remove_top.ensures.ordered c.first_ready.ensures.kept.ordered) nodes;
+        few = omega (arith, c.self.invariant.6.few, c.first_ready.ensures.count, c.remove_top.ensures.count);
+        room = omega (arith, c.self.invariant.6.room, c.first_ready.ensures.room, c.remove_top.ensures.room);
+      },
     )
 
 pub returns-clause-step : goal.returns-clause-step
@@ -103,13 +139,13 @@ returns-clause-step c =
     let r = c.in-Some.ensures.found.ready in
     let f : FitsSigned w128 c.self.inside.best = search rules in
     let best = to_z-of_z w128 c.self.inside.best f in
-    let may = may_take (the_view c.self.inside).problem (the_view c.self.inside).state c.in-Some.index c.self.inside.out c.deref.result.now _ c.deref.ensures.value best c.self.invariant.3 r c.if-self.false in
+    let may = may_take (the_view c.self.inside).problem (the_view c.self.inside).state c.in-Some.node c.self.inside.out c.deref.result.now _ c.deref.ensures.value best c.self.invariant.3 r c.if-self.false in
     let d : length c.deref.result.now ≡ length c.self.inside.nodes.items = ap length c.deref.ensures.value in
-    let lt : c.in-Some.index < length c.deref.result.now = slice_get_within c.deref.result.now c.in-Some.index r.it r.is_there in
-    let nodes = written_out c.self.inside.nodes.items c.in-Some.index c.args.worker c.index_mut.result.now (omega arith) c.index_mut.ensures.value in
+    let lt : c.in-Some.node < length c.deref.result.now = slice_get_within c.deref.result.now c.in-Some.node r.it r.is_there in
+    let nodes = written_out c.self.inside.nodes.items c.in-Some.node c.args.worker c.index_mut.result.now (omega arith) c.index_mut.ensures.value in
     let size = c.requires.same_n ∙ sym (ap (λ (v : CoreFields). v.problem.weights.size) c.self.view_is) in
-    let ticket = ticket_is (the_view c.self.inside) c.in-Some.index _ c.deref-2.result.now _ _ c.fill_ticket.new.into c.deref-2.ensures.value size best c.read.ensures c.fill_ticket.ensures.ticket in
-    rw (← c.self.view_is) (take_step (the_view c.self.inside) _ c.args.worker c.in-Some.index c.fill_ticket.new.into may (take_view _ c.args.worker c.in-Some.index _ _ nodes c.put_last.ensures.items) ticket)
+    let ticket = ticket_is (the_view c.self.inside) c.in-Some.node _ c.deref-2.result.now _ _ c.fill_ticket.new.into c.deref-2.ensures.value size best c.read.ensures c.fill_ticket.ensures.ticket in
+    rw (← c.self.view_is) (take_step (the_view c.self.inside) _ c.args.worker c.in-Some.node c.fill_ticket.new.into may (take_view _ c.args.worker c.in-Some.node _ _ nodes c.put_last.ensures.items) ticket)
 
 pub returns-clause-on_node : goal.returns-clause-on_node
 returns-clause-on_node c =
@@ -117,11 +153,11 @@ returns-clause-on_node c =
     let f : FitsSigned w128 c.self.inside.best = search rules in
     let best = to_z-of_z w128 c.self.inside.best f in
     let d : length c.deref.result.now ≡ length c.self.inside.nodes.items = ap length c.deref.ensures.value in
-    let lt : c.in-Some.index < length c.deref.result.now = slice_get_within c.deref.result.now c.in-Some.index r.it r.is_there in
-    let inside : c.in-Some.index < length c.self.inside.nodes.items = omega arith in
-    let nodes = written_out c.self.inside.nodes.items c.in-Some.index c.args.worker c.index_mut.result.now inside c.index_mut.ensures.value in
+    let lt : c.in-Some.node < length c.deref.result.now = slice_get_within c.deref.result.now c.in-Some.node r.it r.is_there in
+    let inside : c.in-Some.node < length c.self.inside.nodes.items = omega arith in
+    let nodes = written_out c.self.inside.nodes.items c.in-Some.node c.args.worker c.index_mut.result.now inside c.index_mut.ensures.value in
     let size = c.requires.same_n ∙ sym (ap (λ (v : CoreFields). v.problem.weights.size) c.self.view_is) in
-    let ticket = ticket_is (the_view c.self.inside) c.in-Some.index _ c.deref-2.result.now _ _ c.fill_ticket.new.into c.deref-2.ensures.value size best c.read.ensures c.fill_ticket.ensures.ticket in
-    let view = take_view (the_view c.self.inside) c.args.worker c.in-Some.index _ _ nodes c.put_last.ensures.items in
-    rw (← c.self.view_is) (take_on_node (the_view c.self.inside) _ c.args.worker c.in-Some.index c.fill_ticket.new.into c.self.invariant.0 c.self.invariant.1 c.self.invariant.4.book inside view ticket
-    (first_in (the_view c.self.inside).state c.in-Some.index c.deref.result.now _ c.deref.ensures.value best c.in-Some.ensures.found))
+    let ticket = ticket_is (the_view c.self.inside) c.in-Some.node _ c.deref-2.result.now _ _ c.fill_ticket.new.into c.deref-2.ensures.value size best c.read.ensures c.fill_ticket.ensures.ticket in
+    let view = take_view (the_view c.self.inside) c.args.worker c.in-Some.node _ _ nodes c.put_last.ensures.items in
+    rw (← c.self.view_is) (take_on_node (the_view c.self.inside) _ c.args.worker c.in-Some.node c.fill_ticket.new.into c.self.invariant.0 c.self.invariant.1 c.self.invariant.4.book inside view ticket
+    (first_in (the_view c.self.inside).state c.in-Some.node c.deref.result.now _ c.deref.ensures.value best c.in-Some.ensures.found))

@@ -136,34 +136,45 @@ fn a_closed_search(rt: HostRuntime) -> Result<(), Fail> {
     Ok(())
 }
 
+// What the reports of the next three nodes answer, each by a worker of its own.
+fn three_reports(
+    alloc: Global,
+    core: &mut Core,
+    order: &Order,
+) -> Result<[Option<(u32, ReportReply)>; 3], Fail> {
+    Ok([
+        evaluate(alloc, core, 0, order)?,
+        evaluate(alloc, core, 1, order)?,
+        evaluate(alloc, core, 2, order)?,
+    ])
+}
+
+// Best, the bound, how many nodes were evaluated, and how many are live and idle.
+fn figures(core: &Core) -> (i128, i128, u32, u32) {
+    (
+        core.best(),
+        core.bound(),
+        core.evaluated(),
+        core.idle_live(),
+    )
+}
+
 // The root of a three-fence has nothing to pack. It is split on objects 0 and 1, and one step takes 2 in each child.
 #[test]
 fn a_spent_search(rt: HostRuntime) -> Result<(), Fail> {
     let alloc = rt.alloc();
     let (mut core, order) = three_fence(alloc, 3)?.expect(&rt, "core");
+    assert_eq!(rt; figures(&core), (14, 18, 0, 1));
     assert_eq!(rt;
-        evaluate(alloc, &mut core, 0, &order)?,
-        Some((0, ReportReply::Split(1)))
-    );
-    assert_eq!(rt; (core.bound(), core.cuts()), (18, 0));
-    assert_eq!(rt;
-        evaluate(alloc, &mut core, 1, &order)?,
-        Some((1, ReportReply::Split(3)))
-    );
-    assert_eq!(rt;
-        evaluate(alloc, &mut core, 2, &order)?,
-        Some((2, ReportReply::Split(5)))
+        three_reports(alloc, &mut core, &order)?,
+        [
+            Some((0, ReportReply::Split(1))),
+            Some((1, ReportReply::Split(3))),
+            Some((2, ReportReply::Split(5))),
+        ]
     );
     assert_eq!(rt; take(alloc, &mut core, 0)?, TakeReply::Spent);
-    assert_eq!(rt;
-        (
-            core.best(),
-            core.bound(),
-            core.evaluated(),
-            core.idle_live()
-        ),
-        (14, 16, 3, 4)
-    );
+    assert_eq!(rt; figures(&core), (14, 16, 3, 4));
     Ok(())
 }
 
@@ -191,12 +202,19 @@ fn a_record_of_one_dicycle(rt: HostRuntime) -> Result<(), Fail> {
     Ok(())
 }
 
+// What two takes of one worker answer.
+fn two_takes(alloc: Global, core: &mut Core, worker: u32) -> Result<[TakeReply; 2], Fail> {
+    Ok([take(alloc, core, worker)?, take(alloc, core, worker)?])
+}
+
 #[test]
 fn all_out(rt: HostRuntime) -> Result<(), Fail> {
     let alloc = rt.alloc();
     let mut core = three_sectors(alloc, 3)?.expect(&rt, "core");
-    assert_eq!(rt; take(alloc, &mut core, 4)?, TakeReply::Node);
-    assert_eq!(rt; take(alloc, &mut core, 4)?, TakeReply::AllOut);
+    assert_eq!(rt;
+        two_takes(alloc, &mut core, 4)?,
+        [TakeReply::Node, TakeReply::AllOut]
+    );
     Ok(())
 }
 

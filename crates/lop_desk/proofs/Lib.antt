@@ -4,3 +4,4 @@ pub mod Files
 pub mod Printing
 pub mod Lines
 pub mod NextLine
+pub mod Spellings

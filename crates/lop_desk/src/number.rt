@@ -1,6 +1,6 @@
 // Numbers in words.
 ghost use Rattle.std.specs.Prelude.{◌≡◌, ◌≤◌, ◌<◌, ◌+◌, ◌*◌, ◌^◌, ℕ, length, MatchOption, true, IsTrue, ◌↔◌, nat_abs};
-ghost use Rattle.lop_desk.specs.Number.{all_digits, digits_value, IsPlain, IsWhole, unsigned_word, whole_value};
+ghost use Rattle.lop_desk.specs.Number.{all_digits, digits_value, is_plain_word, is_whole_word, unsigned_word, whole_value};
 
 // The value of digits, where all bytes are and it fits.
 fn digits(word: &[u8]) -> Option<u64>
@@ -34,8 +34,8 @@ fn shifted(value: u64, digit: u8) -> Option<u64>
 
 /// The value of `0`, or of digits that don't begin with 0, where it fits 64 bits. Cost: O(k) for k bytes.
 pub fn plain_number(word: &[u8]) -> Option<u64>
-    ensures { MatchOption result (IsPlain word.now → 2 ^ 64 ≤ digits_value word.now)
-        (λ n. IsPlain word.now × (n ≡ digits_value word.now)) }
+    ensures { MatchOption result (IsTrue (is_plain_word word.now) → 2 ^ 64 ≤ digits_value word.now)
+        (λ n. IsTrue (is_plain_word word.now) × (n ≡ digits_value word.now)) }
 {
     if word.is_empty() || word[0] == b'0' && word.len() > 1 {
         return None;
@@ -55,7 +55,7 @@ fn unsigned(word: &[u8]) -> &[u8]
 
 /// Whether the word is an optional sign, and one or more digits, however many. Cost: O(k) for k bytes.
 pub fn is_whole(word: &[u8]) -> bool
-    ensures { IsTrue result ↔ IsWhole word.now }
+    ensures { result ≡ is_whole_word word.now }
 {
     let rest = unsigned(word);
     !rest.is_empty() && are_digits(rest)
@@ -75,8 +75,8 @@ fn are_digits(word: &[u8]) -> bool
 /// The value of an optional sign and one or more digits, where it is at most 10^18 in absolute value. Zeros in
 /// front don't count, so a word may have any length. Cost: O(k) for k bytes, a multiplication for each.
 pub fn whole_number(word: &[u8]) -> Option<i128>
-    ensures { MatchOption result (IsWhole word.now → 10 ^ 18 < nat_abs (whole_value word.now))
-        (λ n. IsWhole word.now × (n ≡ whole_value word.now) × (nat_abs n ≤ 10 ^ 18)) }
+    ensures { MatchOption result (IsTrue (is_whole_word word.now) → 10 ^ 18 < nat_abs (whole_value word.now))
+        (λ n. IsTrue (is_whole_word word.now) × (n ≡ whole_value word.now) × (nat_abs n ≤ 10 ^ 18)) }
 {
     let rest = unsigned(word);
     if rest.is_empty() {

@@ -5,7 +5,7 @@ ghost use Rattle.std.specs.Prelude.{Some};
 
 use crate::{
     Desk, Line, LineReader, LineStop, MemoryDesk, NamedBytes, OpenFault, ReadStop, TextRoom,
-    has_distinct_names, is_whole, plain_number, print_all, read_whole, whole_number, write_all,
+    is_whole, plain_number, print_all, read_whole, whole_number, write_all,
 };
 use std::alloc::{AllocError, Global};
 use std::test::Fail;
@@ -148,25 +148,38 @@ fn stopped_lines(rt: HostRuntime) -> Result<(), Fail> {
 #[test]
 fn whole_files(rt: HostRuntime) -> Result<(), Fail> {
     let alloc = rt.alloc();
-    let mut bytes = Vec::new(alloc);
-    extend(&mut bytes, b'x', 65_537)?;
-    // Each reading that ends well makes three reads: of 65,536 bytes, of one, and of none. Call 12 is the last of them.
-    let mut memory = desk(alloc, &bytes, &[12], 0)?;
-    assert_eq!(rt; read_length(alloc, &mut memory, "a", 65_537), Ok(65_537));
-    assert_eq!(rt;
-        read_length(alloc, &mut memory, "a", 65_536),
-        Err(ReadStop::TooLong)
-    );
-    assert_eq!(rt;
-        read_length(alloc, &mut memory, "b", 9),
-        Err(ReadStop::Failed)
-    );
-    assert_eq!(rt; memory.faults(), 0);
-    assert_eq!(rt;
-        read_length(alloc, &mut memory, "a", 65_537),
-        Err(ReadStop::Failed)
-    );
-    assert_eq!(rt; memory.faults(), 1);
+    // Each takes two reads of 65,536 bytes, and one that gives none. So call 5 is the next one.
+    for (count, less) in [(65_537, 65_536), (131_072, 131_071)] {
+        let mut bytes = Vec::new(alloc);
+        extend(&mut bytes, b'x', count)?;
+        let mut memory = desk(alloc, &bytes, &[5], 0)?;
+        assert_eq!(rt; read_length(alloc, &mut memory, "a", count), Ok(count));
+        assert!(rt; matches!(memory.open_file("a"), Err(OpenFault::Failed)));
+        assert_eq!(rt;
+            read_length(alloc, &mut memory, "a", less),
+            Err(ReadStop::TooLong)
+        );
+        assert_eq!(rt;
+            read_length(alloc, &mut memory, "b", 9),
+            Err(ReadStop::Failed)
+        );
+        assert_eq!(rt; memory.faults(), 1);
+    }
+    Ok(())
+}
+
+#[test]
+fn steps(rt: HostRuntime) -> Result<(), Fail> {
+    let alloc = rt.alloc();
+    let mut memory = desk(alloc, b"old", &[8], 2)?;
+    memory.set_step(1);
+    // Three reads of a byte, and one that gives none; then two prints.
+    assert_eq!(rt; read_length(alloc, &mut memory, "a", 3), Ok(3));
+    assert!(rt; print_all(&mut memory, b"xy").is_ok());
+    assert!(rt; memory.create("b").is_err());
+    assert!(rt; memory.create("b").is_ok());
+    assert!(rt; memory.write(b"xy") == Ok(1));
+    assert_eq!(rt; memory.printed(), b"xy".as_slice());
     Ok(())
 }
 
@@ -204,18 +217,5 @@ fn printed_text(rt: HostRuntime) -> Result<(), Fail> {
     text.clear();
     assert_eq!(rt; text.bytes(), b"".as_slice());
     assert!(rt; matches!(memory.open_file("b"), Err(OpenFault::Missing)));
-    Ok(())
-}
-
-#[test]
-fn names(rt: HostRuntime) -> Result<(), Fail> {
-    let alloc = rt.alloc();
-    let mut files = Vec::new(alloc);
-    for name in ["a", "b", "a"] {
-        assert!(rt; has_distinct_names(&files));
-        let name = String::from_str(alloc, name)?;
-        files.push(NamedBytes::new(name, Vec::new(alloc)))?;
-    }
-    assert!(rt; !has_distinct_names(&files));
     Ok(())
 }

@@ -11,3 +11,4 @@ pub mod DistinctLemmas
 pub mod InRangeLemmas
 pub mod FaultUniqueLemmas
 pub mod LagrangianLemmas
+pub mod PointLemmas

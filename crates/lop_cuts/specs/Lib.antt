@@ -2,3 +2,5 @@ pub mod Arcs
 pub mod Kind
 pub mod Fault
 pub mod Lagrangian
+pub mod Point
+pub mod CutList

@@ -5,14 +5,21 @@
 #![tactic(auto)]
 
 mod arcs;
+mod crossing;
 mod cut;
+mod cut_list;
 mod fault;
 mod kind;
 mod objects;
+mod point;
+mod violated;
 
 pub use cut::Cut;
+pub use cut_list::CutList;
 pub use fault::CutFault;
 pub use kind::{CutKind, Cycle};
+pub use point::Point;
+pub use violated::is_violated;
 
 #[cfg(test)]
 mod tests;

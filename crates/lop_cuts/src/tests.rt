@@ -1,3 +1,5 @@
+ghost use Rattle.std.specs.Prelude.{◌≤◌, ◌^◌};
+
 use super::*;
 use lop_model::Pair;
 use std::test::Fail;
@@ -130,5 +132,55 @@ fn a_fault_is_printed_by_its_name(rt: HostRuntime) -> Result<(), Fail> {
     for (fault, name) in named {
         assert_eq!(rt; format!(in rt.alloc(); "{fault}")?.as_str(), name);
     }
+    Ok(())
+}
+
+#[test]
+fn an_arc_and_its_reverse_add_up_to_one(rt: HostRuntime) -> Result<(), Fail> {
+    let mut point = Point::new(rt.alloc(), 3)?;
+    point.set(0, 2, 5);
+    point.set(1, 0, Point::ONE);
+    let half = Point::ONE / 2;
+    let rest = Point::ONE - 5;
+    assert_eq!(rt; point.row(0), [half, 0, 5].as_slice());
+    assert_eq!(rt; point.row(1), [Point::ONE, half, half].as_slice());
+    assert_eq!(rt; point.row(2), [rest, half, half].as_slice());
+    assert_eq!(rt; (point.n(), point.at(2, 0)), (3, rest));
+    Ok(())
+}
+
+/// Whether the dicycle of three objects is violated where its arcs have these values.
+fn violates(rt: &HostRuntime, first: u64, second: u64, third: u64) -> Result<bool, Fail>
+    requires first { first ≤ 2 ^ 32 }
+    requires second { second ≤ 2 ^ 32 }
+    requires third { third ≤ 2 ^ 32 }
+{
+    let mut point = Point::new(rt.alloc(), 3)?;
+    point.set(0, 1, first);
+    point.set(1, 2, second);
+    point.set(2, 0, third);
+    let cut = Cut::dicycle(0, 1, 2, 3)?;
+    Ok(is_violated(&point, &cut))
+}
+
+#[test]
+fn a_cut_is_violated_above_its_right_side(rt: HostRuntime) -> Result<(), Fail> {
+    let one = Point::ONE;
+    assert!(rt; !violates(&rt, one / 2, one / 2, one / 2)?);
+    assert!(rt; !violates(&rt, one, one, 0)?);
+    assert!(rt; violates(&rt, one, one, 1)?);
+    assert!(rt; !violates(&rt, one - 1, one, 1)?);
+    Ok(())
+}
+
+#[test]
+fn a_list_of_cuts_fills_its_room(rt: HostRuntime) -> Result<(), Fail> {
+    let mut list = CutList::new(rt.alloc(), 2)?;
+    list.put(Cut::dicycle(0, 1, 2, 3)?);
+    list.put(Cut::dicycle(0, 2, 1, 3)?);
+    assert_eq!(rt; (list.len(), list.free()), (2, 0));
+    assert_eq!(rt; list.get(1).kind(), &CutKind::Dicycle([0, 2, 1]));
+    list.clear();
+    assert_eq!(rt; (list.len(), list.free()), (0, 2));
     Ok(())
 }

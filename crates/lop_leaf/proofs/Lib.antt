@@ -9,3 +9,4 @@ pub mod FallLemmas
 pub mod QuotientLemmas
 pub mod PathLemmas
 pub mod ClosureUnique
+pub mod HintLemmas

@@ -3,7 +3,9 @@
 
 mod bound;
 mod charges;
+mod crossing;
 mod evaluated;
+mod hints;
 mod leaf_record;
 mod pack;
 #[cfg(test)]
@@ -12,6 +14,7 @@ mod ticket;
 
 pub use bound::{PairRoom, bound_of, upper};
 pub use evaluated::Evaluated;
+pub use hints::round_hints;
 pub use leaf_record::{LeafRecord, MAX_TERMS, Term};
 pub use pack::packing;
 pub use ticket::Ticket;

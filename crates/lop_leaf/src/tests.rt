@@ -1,4 +1,6 @@
-use crate::{Evaluated, LeafRecord, PairRoom, Ticket, bound_of, packing, upper};
+ghost use Rattle.std.specs.Prelude.{◌≤◌};
+
+use crate::{Evaluated, LeafRecord, PairRoom, Ticket, bound_of, packing, round_hints, upper};
 use lop_cuts::Cut;
 use lop_fix::{Decision, Fixings};
 use lop_model::{Order, Pair, Weights};
@@ -222,5 +224,37 @@ fn may_cross_threads(rt: HostRuntime) -> Result<(), Fail> {
     let room = sent(PairRoom::new(alloc, 1)?);
     shared(&room);
     assert_eq!(rt; (sent(ticket).node(), sent(result).node()), (0, 0));
+    Ok(())
+}
+
+// The multiplier to which the dual of one cut is rounded, or None where there is no term.
+fn rounds(alloc: Global, dual: i64, shift: u32, scale: u32) -> Result<Option<u64>, Fail>
+    requires shift { shift ≤ 40 }
+    requires positive { 1 ≤ scale }
+    requires within_limit { scale ≤ 65536 }
+{
+    let mut rec = LeafRecord::new(alloc)?;
+    let Ok(cut) = Cut::dicycle(0, 1, 2, 3) else {
+        return Ok(None);
+    };
+    round_hints(&[cut], &[dual], shift, scale, &mut rec);
+    if rec.len() > 0 && rec.scale() == scale {
+        Ok(Some(rec.term(0).multiplier))
+    } else {
+        Ok(None)
+    }
+}
+
+#[test]
+fn hints_are_rounded_down(rt: HostRuntime) -> Result<(), Fail> {
+    let one: i64 = 1 << 32;
+    let most = 9_223_372_036_854_775_807;
+    assert_eq!(rt; rounds(rt.alloc(), one, 0, 1)?, Some(1));
+    assert_eq!(rt; rounds(rt.alloc(), one - 1, 0, 1)?, None);
+    assert_eq!(rt; rounds(rt.alloc(), 3 * one - 1, 0, 1)?, Some(2));
+    assert_eq!(rt; rounds(rt.alloc(), 3, 40, 65536)?, Some(50_331_648));
+    assert_eq!(rt; rounds(rt.alloc(), i64::MAX, 0, 1)?, Some(2_147_483_647));
+    assert_eq!(rt; rounds(rt.alloc(), i64::MAX, 40, 65536)?, Some(most));
+    assert_eq!(rt; rounds(rt.alloc(), -one, 40, 65536)?, None);
     Ok(())
 }

@@ -1,0 +1,12 @@
+//! A record may move to another thread and be shared by threads.
+use crate::LeafRecord;
+
+fn shared<X: Sync>(_value: &X) {}
+
+fn sent<X: Send>(_value: &X) {}
+
+// It compiles to nothing: the check proves the bounds.
+fn crosses(rec: &LeafRecord) {
+    shared(rec);
+    sent(rec);
+}

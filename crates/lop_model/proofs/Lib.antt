@@ -5,3 +5,8 @@ pub mod BoundLemmas
 pub mod FixingsLemmas
 pub mod ClosureLemmas
 pub mod InsertLemmas
+pub mod RelatedPairs
+pub mod RisingPairs
+pub mod Closings
+pub mod BranchingLength
+pub mod CellLemmas

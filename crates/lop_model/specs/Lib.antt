@@ -5,3 +5,6 @@ pub mod Fixings
 pub mod Bound
 pub mod WeightsFault
 pub mod OrderFault
+pub mod Related
+pub mod Closing
+pub mod Cells

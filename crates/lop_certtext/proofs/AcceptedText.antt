@@ -21,12 +21,12 @@ use Rattle.lop_certtext.specs.declared.word.CertWord.{CertWord}
 use Rattle.lop_certtext.specs.declared.word.CertWord.TheVariants.{Version, Objects, OrderLine, Value, Bound, Cuts, End}
 use Rattle.lop_certtext.specs.declared.reason.Reason.TheVariants as reason
 use Rattle.lop_certtext.specs.Line.{CertLine, most_cuts, is_count, are_counts, is_row, line_text}
-use Rattle.lop_certtext.specs.Chains.{reversed}
+use Rattle.lop_model.specs.Closing.{AreClosures}
 use Rattle.lop_certtext.specs.CutLine.{numbers_of_objects, cycle_numbers, cut_line, IsShapedCycle, IsShapedCut, objects_of, cut_of}
 use Rattle.lop_certtext.specs.LeafLine.{LeafTerms, leaf_line}
-use Rattle.lop_certtext.specs.Tree.{Tree, leaf, split, split_line, tree_lines, IsLeaf, IsTree}
+use Rattle.lop_certtext.specs.Tree.{reversed, Tree, leaf, split, split_line, tree_lines, IsLeaf, IsTree}
 use Rattle.lop_certtext.specs.Certificate.{Certificate, certificate_lines, certificate_text, text_of, IsTreeCertificate}
-use Rattle.lop_certtext.specs.Answer.{TextLine, ended_line, long_line, long_file, limited, lines_from, text_lines, CheckAnswer, accepted, rejected, with_line, spelled, expect, is_version, is_objects, is_order_line, is_value, is_bound, is_cuts, is_end, only_number, are_objects, is_order, objects_step, order_step, value_step, bound_step, cuts_step, cuts_left_step, is_cut_word, with_cut, cut_step, tree_step, node_step, split_step, leaf_step, leaf_value, leaf_limit, tail_step, check_answer}
+use Rattle.lop_certtext.specs.Answer.{TextLine, ended_line, long_line, long_file, limited, lines_from, text_lines, CheckAnswer, accepted, rejected, with_line, spelled, expect, is_version, is_objects, is_order_line, is_value, is_bound, is_cuts, is_end, only_number, are_objects, is_order, objects_step, order_step, value_step, bound_step, cuts_step, cuts_left_step, is_cut_word, with_cut, cut_step, tree_step, node_step, split_step, leaf_step, leaf_value, leaf_limit, tail_step, check_answer, IsCheckAnswer}
 use Rattle.lop_certtext.proofs.Lines.{All-from_free, lf_free-line_text, length-line_text, line_reading-line_text}
 use Rattle.lop_certtext.proofs.ObjectNumbers.{objects_of-numbers}
 use Rattle.lop_certtext.proofs.CutText.{cut_of-line}
@@ -250,25 +250,25 @@ module _ (C : Matrix) (weights : IsWeights C) (cuts : List CutKind) (bound : ℤ
 
   -- ---- the tree
 
-  module _ (value : ℤ) where
-    leaf_holds : (path : List Pair) (pending : List (List Pair)) (number : ℕ) (l : LeafTerms) (rest : List TextLine) → IsLeaf C cuts bound path l → tree_step C cuts value bound (path ∷ pending) number (ended (leaf_line l) ∷ rest) ≡ tree_step C cuts value bound pending (number + 1) rest
+  module _ (K : List Pair → List Pair) (closes : AreClosures K) (value : ℤ) where
+    leaf_holds : (path : List Pair) (pending : List (List Pair)) (number : ℕ) (l : LeafTerms) (rest : List TextLine) → IsLeaf C cuts bound path l → tree_step K C cuts value bound (path ∷ pending) number (ended (leaf_line l) ∷ rest) ≡ tree_step K C cuts value bound pending (number + 1) rest
     leaf_holds path pending number l rest is =
-        let next : List (List Pair) → CheckAnswer = λ left. tree_step C cuts value bound left (number + 1) rest in
+        let next : List (List Pair) → CheckAnswer = λ left. tree_step K C cuts value bound left (number + 1) rest in
         let w = leaf_written C cuts bound path l few is in
-        let high = rejected number (reason.High (leaf_value C cuts path l) (leaf_limit l bound)) in
-        ap (λ (o : Option CertLine). with_line number o (λ x. node_step C cuts bound path pending number x.word x.numbers next)) (line_reading-line_text (leaf_line l) w.row)
-        ∙ ap (λ (o : Option LeafTerms). leaf_step C cuts bound path pending number o next) (leaf_of-line (length cuts) l is.positive is.within_limit is.few is.rising)
-        ∙ ap (λ (t : Bool). cond t (next pending) high) (int_lt-true (leaf_value C cuts path l) (leaf_limit l bound) is.certified)
+        let high = rejected number (reason.High (leaf_value C cuts (K path) l) (leaf_limit l bound)) in
+        ap (λ (o : Option CertLine). with_line number o (λ x. node_step C cuts bound (K path) path pending number x.word x.numbers next)) (line_reading-line_text (leaf_line l) w.row)
+        ∙ ap (λ (o : Option LeafTerms). leaf_step C cuts bound (K path) pending number o next) (leaf_of-line (length cuts) l is.positive is.within_limit is.few is.rising)
+        ∙ ap (λ (t : Bool). cond t (next pending) high) (int_lt-true (leaf_value C cuts (K path) l) (leaf_limit l bound) (is.certified.each (K path) (closes.each path)))
 
-    split_holds : (path : List Pair) (pending : List (List Pair)) (number : ℕ) (p : Pair) (lines : List TextLine) (first second : Tree) → IsTree C cuts bound path (split p first second) → tree_step C cuts value bound (path ∷ pending) number (ended (split_line p) ∷ lines) ≡ tree_step C cuts value bound ((path ++ p ∷ []) ∷ (path ++ reversed p ∷ []) ∷ pending) (number + 1) lines
+    split_holds : (path : List Pair) (pending : List (List Pair)) (number : ℕ) (p : Pair) (lines : List TextLine) (first second : Tree) → IsTree C cuts bound path (split p first second) → tree_step K C cuts value bound (path ∷ pending) number (ended (split_line p) ∷ lines) ≡ tree_step K C cuts value bound ((path ++ p ∷ []) ∷ (path ++ reversed p ∷ []) ∷ pending) (number + 1) lines
     split_holds path pending number p lines first second is =
-        let next : List (List Pair) → CheckAnswer = λ left. tree_step C cuts value bound left (number + 1) lines in
+        let next : List (List Pair) → CheckAnswer = λ left. tree_step K C cuts value bound left (number + 1) lines in
         let w = split_written path p is.0.first is.0.second in
-        ap (λ (o : Option CertLine). with_line number o (λ x. node_step C cuts bound path pending number x.word x.numbers next)) (line_reading-line_text (split_line p) w.row)
-        ∙ ap (λ (o : Option Pair). split_step path pending number o next) (split_of-line C.size path p is.0)
+        ap (λ (o : Option CertLine). with_line number o (λ x. node_step C cuts bound (K path) path pending number x.word x.numbers next)) (line_reading-line_text (split_line p) w.row)
+        ∙ ap (λ (o : Option Pair). split_step path pending number o next) (split_of-line C.size path (K path) p (closes.each path) is.0)
 
     -- the lines of a true tree take its path away
-    tree_holds : (path : List Pair) (tree : Tree) → IsTree C cuts bound path tree → (pending : List (List Pair)) (number : ℕ) (rest : List TextLine) → tree_step C cuts value bound (path ∷ pending) number (map ended (tree_lines tree) ++ rest) ≡ tree_step C cuts value bound pending (number + length (tree_lines tree)) rest
+    tree_holds : (path : List Pair) (tree : Tree) → IsTree C cuts bound path tree → (pending : List (List Pair)) (number : ℕ) (rest : List TextLine) → tree_step K C cuts value bound (path ∷ pending) number (map ended (tree_lines tree) ++ rest) ≡ tree_step K C cuts value bound pending (number + length (tree_lines tree)) rest
     tree_holds path (leaf l) is pending number rest = leaf_holds path pending number l rest is
     tree_holds path (split p first second) is pending number rest =
         let here = map ended (tree_lines first) in
@@ -276,11 +276,11 @@ module _ (C : Matrix) (weights : IsWeights C) (cuts : List CutKind) (bound : ℤ
         let count : (number + 1) + length (tree_lines first) + length (tree_lines second) ≡ number + length (tree_lines (split p first second)) = omega (arith, length-append (tree_lines first) (tree_lines second)) in
         let paths = (path ++ p ∷ []) ∷ (path ++ reversed p ∷ []) ∷ pending in
         split_holds path pending number p (map ended (tree_lines first ++ tree_lines second) ++ rest) first second is
-        ∙ ap (λ (ls : List TextLine). tree_step C cuts value bound paths (number + 1) (ls ++ rest)) (map-append ended (tree_lines first) (tree_lines second))
-        ∙ ap (tree_step C cuts value bound paths (number + 1)) (append_assoc here there rest)
+        ∙ ap (λ (ls : List TextLine). tree_step K C cuts value bound paths (number + 1) (ls ++ rest)) (map-append ended (tree_lines first) (tree_lines second))
+        ∙ ap (tree_step K C cuts value bound paths (number + 1)) (append_assoc here there rest)
         ∙ tree_holds (path ++ p ∷ []) first is.1 ((path ++ reversed p ∷ []) ∷ pending) (number + 1) (there ++ rest)
         ∙ tree_holds (path ++ reversed p ∷ []) second is.2 pending ((number + 1) + length (tree_lines first)) rest
-        ∙ ap (λ (k : ℕ). tree_step C cuts value bound pending k rest) count
+        ∙ ap (λ (k : ℕ). tree_step K C cuts value bound pending k rest) count
 
 is_cut_word-line : (cut : CutKind) → is_cut_word (cut_line cut).word ≡ true
 is_cut_word-line (kind.Dicycle objects) = refl
@@ -288,24 +288,24 @@ is_cut_word-line (kind.Fence u w) = refl
 is_cut_word-line (kind.Ladder cycles) = refl
 
 -- the lines of cuts are read as those cuts
-cuts_hold : (C : Matrix) (value bound : ℤ) → IsWeights C → (cs : List CutKind) → All IsCut cs → All (FitsCut C.size) cs → All IsShapedCut cs → (cuts : List CutKind) (number : ℕ) (rest : List TextLine) → cuts_left_step C value bound (length cs) cuts number (map ended (map cut_line cs) ++ rest) ≡ tree_step C (cuts ++ cs) value bound ([] ∷ []) (number + length cs) rest
-cuts_hold C value bound weights [] right fits shaped cuts number rest =
+cuts_hold : (K : List Pair → List Pair) (C : Matrix) (value bound : ℤ) → IsWeights C → (cs : List CutKind) → All IsCut cs → All (FitsCut C.size) cs → All IsShapedCut cs → (cuts : List CutKind) (number : ℕ) (rest : List TextLine) → cuts_left_step K C value bound (length cs) cuts number (map ended (map cut_line cs) ++ rest) ≡ tree_step K C (cuts ++ cs) value bound ([] ∷ []) (number + length cs) rest
+cuts_hold K C value bound weights [] right fits shaped cuts number rest =
     let same : number ≡ number + 0 = omega arith in
-    ap (λ (l : List CutKind). tree_step C l value bound ([] ∷ []) number rest) (sym (append-nil cuts)) ∙ ap (λ (k : ℕ). tree_step C (cuts ++ []) value bound ([] ∷ []) k rest) same
-cuts_hold C value bound weights (c ∷ cs) right fits shaped cuts number rest =
+    ap (λ (l : List CutKind). tree_step K C l value bound ([] ∷ []) number rest) (sym (append-nil cuts)) ∙ ap (λ (k : ℕ). tree_step K C (cuts ++ []) value bound ([] ∷ []) k rest) same
+cuts_hold K C value bound weights (c ∷ cs) right fits shaped cuts number rest =
     let lines = map ended (map cut_line cs) ++ rest in
     let l = cut_line c in
     let is = All-head IsCut c cs right in
     let in_n = All-head (FitsCut C.size) c cs fits in
     let shape = All-head IsShapedCut c cs shaped in
-    let next : CutKind → CheckAnswer = λ cut. cuts_left_step C value bound (length cs) (cuts ++ cut ∷ []) (number + 1) lines in
+    let next : CutKind → CheckAnswer = λ cut. cuts_left_step K C value bound (length cs) (cuts ++ cut ∷ []) (number + 1) lines in
     let count : (number + 1) + length cs ≡ number + length (c ∷ cs) = omega arith in
-    spelled-line number l lines (λ line after. cut_step C.size number line.word line.numbers (λ cut. cuts_left_step C value bound (length cs) (cuts ++ cut ∷ []) (number + 1) after)) (cut_written C.size c weights.within_limit is in_n shape)
+    spelled-line number l lines (λ line after. cut_step C.size number line.word line.numbers (λ cut. cuts_left_step K C value bound (length cs) (cuts ++ cut ∷ []) (number + 1) after)) (cut_written C.size c weights.within_limit is in_n shape)
     ∙ ap (λ (t : Bool). cond t (with_cut number (cut_of C.size l.word l.numbers) next) (rejected number reason.Spelling)) (is_cut_word-line c)
     ∙ ap (λ (o : Option CutKind). with_cut number o next) (cut_of-line C.size c is in_n shape)
-    ∙ cuts_hold C value bound weights cs (All-tail IsCut c cs right) (All-tail (FitsCut C.size) c cs fits) (All-tail IsShapedCut c cs shaped) (cuts ++ c ∷ []) (number + 1) rest
-    ∙ ap (λ (m : List CutKind). tree_step C m value bound ([] ∷ []) ((number + 1) + length cs) rest) (append_assoc cuts (c ∷ []) cs)
-    ∙ ap (λ (k : ℕ). tree_step C (cuts ++ c ∷ cs) value bound ([] ∷ []) k rest) count
+    ∙ cuts_hold K C value bound weights cs (All-tail IsCut c cs right) (All-tail (FitsCut C.size) c cs fits) (All-tail IsShapedCut c cs shaped) (cuts ++ c ∷ []) (number + 1) rest
+    ∙ ap (λ (m : List CutKind). tree_step K C m value bound ([] ∷ []) ((number + 1) + length cs) rest) (append_assoc cuts (c ∷ []) cs)
+    ∙ ap (λ (k : ℕ). tree_step K C (cuts ++ c ∷ cs) value bound ([] ∷ []) k rest) count
 
 module _ (C : Matrix) (weights : IsWeights C) (c : Certificate) (holds : IsTreeCertificate C c) where
   size_is : length c.order ≡ C.size
@@ -338,17 +338,17 @@ module _ (C : Matrix) (weights : IsWeights C) (c : Certificate) (holds : IsTreeC
   abbrev from_cuts : List CertLine
   from_cuts = map cut_line c.cuts ++ from_tree
 
-  tree_accepted : (number : ℕ) → tree_step C c.cuts c.value c.bound ([] ∷ []) number (map ended from_tree) ≡ accepted c.value c.bound
-  tree_accepted number =
-      ap (tree_step C c.cuts c.value c.bound ([] ∷ []) number) (map-append ended (tree_lines c.tree) (end_line ∷ []))
-      ∙ tree_holds C weights c.cuts c.bound holds.few_cuts c.value [] c.tree holds.tree_is [] number (ended end_line ∷ [])
+  tree_accepted : (K : List Pair → List Pair) → AreClosures K → (number : ℕ) → tree_step K C c.cuts c.value c.bound ([] ∷ []) number (map ended from_tree) ≡ accepted c.value c.bound
+  tree_accepted K closes number =
+      ap (tree_step K C c.cuts c.value c.bound ([] ∷ []) number) (map-append ended (tree_lines c.tree) (end_line ∷ []))
+      ∙ tree_holds C weights c.cuts c.bound holds.few_cuts K closes c.value [] c.tree holds.tree_is [] number (ended end_line ∷ [])
       ∙ expect-line is_end (number + length (tree_lines c.tree)) end_line [] (λ _ rest. tail_step c.value c.bound (number + length (tree_lines c.tree) + 1) rest) end_written refl
 
-  cuts_accepted : cuts_left_step C c.value c.bound (length c.cuts) [] 7 (map ended from_cuts) ≡ accepted c.value c.bound
-  cuts_accepted =
-      ap (cuts_left_step C c.value c.bound (length c.cuts) [] 7) (map-append ended (map cut_line c.cuts) from_tree)
-      ∙ cuts_hold C c.value c.bound weights c.cuts holds.cuts_are holds.cuts_fit holds.cuts_shaped [] 7 (map ended from_tree)
-      ∙ tree_accepted (7 + length c.cuts)
+  cuts_accepted : (K : List Pair → List Pair) → AreClosures K → cuts_left_step K C c.value c.bound (length c.cuts) [] 7 (map ended from_cuts) ≡ accepted c.value c.bound
+  cuts_accepted K closes =
+      ap (cuts_left_step K C c.value c.bound (length c.cuts) [] 7) (map-append ended (map cut_line c.cuts) from_tree)
+      ∙ cuts_hold K C c.value c.bound weights c.cuts holds.cuts_are holds.cuts_fit holds.cuts_shaped [] 7 (map ended from_tree)
+      ∙ tree_accepted K closes (7 + length c.cuts)
 
   abbrev from_count : List TextLine
   from_count = ended (cuts_line c) ∷ map ended from_cuts
@@ -365,40 +365,40 @@ module _ (C : Matrix) (weights : IsWeights C) (c : Certificate) (holds : IsTreeC
   abbrev from_objects : List TextLine
   from_objects = ended (objects_line c) ∷ from_order
 
-  count_holds : cuts_step C c.value c.bound from_count ≡ accepted c.value c.bound
-  count_holds = expect-line is_cuts 6 (cuts_line c) (map ended from_cuts) (λ numbers rest. cuts_left_step C c.value c.bound (nat_abs (only_number numbers)) [] 7 rest) count_written refl ∙ cuts_accepted
+  count_holds : (K : List Pair → List Pair) → AreClosures K → cuts_step K C c.value c.bound from_count ≡ accepted c.value c.bound
+  count_holds K closes = expect-line is_cuts 6 (cuts_line c) (map ended from_cuts) (λ numbers rest. cuts_left_step K C c.value c.bound (nat_abs (only_number numbers)) [] 7 rest) count_written refl ∙ cuts_accepted K closes
 
-  bound_holds : bound_step C c.value from_bound ≡ accepted c.value c.bound
-  bound_holds = expect-line is_bound 5 (bound_line c) from_count (λ numbers rest. cuts_step C c.value (only_number numbers) rest) bound_written refl ∙ count_holds
+  bound_holds : (K : List Pair → List Pair) → AreClosures K → bound_step K C c.value from_bound ≡ accepted c.value c.bound
+  bound_holds K closes = expect-line is_bound 5 (bound_line c) from_count (λ numbers rest. cuts_step K C c.value (only_number numbers) rest) bound_written refl ∙ count_holds K closes
 
-  value_holds : value_step C c.order from_value ≡ accepted c.value c.bound
-  value_holds =
+  value_holds : (K : List Pair → List Pair) → AreClosures K → value_step K C c.order from_value ≡ accepted c.value c.bound
+  value_holds K closes =
       let w = weight C c.order in
       let test : (int_le c.value w && int_le w c.value) ≡ true = ap (λ (z : ℤ). int_le c.value z && int_le z c.value) (sym holds.value_is) ∙ and_from _ _ (int_le-same c.value) (int_le-same c.value) in
-      expect-line is_value 4 (value_line c) from_bound (λ numbers rest. cond (int_le (only_number numbers) w && int_le w (only_number numbers)) (bound_step C (only_number numbers) rest) (rejected 4 (reason.Value (only_number numbers) w))) value_written refl
-      ∙ ap (λ (t : Bool). cond t (bound_step C c.value from_bound) (rejected 4 (reason.Value c.value w))) test
-      ∙ bound_holds
+      expect-line is_value 4 (value_line c) from_bound (λ numbers rest. cond (int_le (only_number numbers) w && int_le w (only_number numbers)) (bound_step K C (only_number numbers) rest) (rejected 4 (reason.Value (only_number numbers) w))) value_written refl
+      ∙ ap (λ (t : Bool). cond t (bound_step K C c.value from_bound) (rejected 4 (reason.Value c.value w))) test
+      ∙ bound_holds K closes
 
-  order_holds : order_step C from_order ≡ accepted c.value c.bound
-  order_holds =
-      expect-line is_order_line 3 (order_line c) from_value (λ numbers rest. cond (is_order C.size numbers) (value_step C (objects_of numbers) rest) (rejected 3 reason.OrderLine)) order_written refl
-      ∙ ap (λ (t : Bool). cond t (value_step C (objects_of (numbers_of_objects c.order)) from_value) (rejected 3 reason.OrderLine)) (is_order-order C.size c.order holds.order_is)
-      ∙ ap (λ (s : List ℕ). value_step C s from_value) (objects_of-numbers c.order)
-      ∙ value_holds
+  order_holds : (K : List Pair → List Pair) → AreClosures K → order_step K C from_order ≡ accepted c.value c.bound
+  order_holds K closes =
+      expect-line is_order_line 3 (order_line c) from_value (λ numbers rest. cond (is_order C.size numbers) (value_step K C (objects_of numbers) rest) (rejected 3 reason.OrderLine)) order_written refl
+      ∙ ap (λ (t : Bool). cond t (value_step K C (objects_of (numbers_of_objects c.order)) from_value) (rejected 3 reason.OrderLine)) (is_order-order C.size c.order holds.order_is)
+      ∙ ap (λ (s : List ℕ). value_step K C s from_value) (objects_of-numbers c.order)
+      ∙ value_holds K closes
 
-  objects_holds : objects_step C from_objects ≡ accepted c.value c.bound
-  objects_holds =
-      expect-line is_objects 2 (objects_line c) from_order (λ numbers rest. cond (nat_abs (only_number numbers) == C.size) (order_step C rest) (rejected 2 reason.Size)) objects_written refl
-      ∙ ap (λ (t : Bool). cond t (order_step C from_order) (rejected 2 reason.Size)) (eq-eqb (length c.order) C.size size_is)
-      ∙ order_holds
+  objects_holds : (K : List Pair → List Pair) → AreClosures K → objects_step K C from_objects ≡ accepted c.value c.bound
+  objects_holds K closes =
+      expect-line is_objects 2 (objects_line c) from_order (λ numbers rest. cond (nat_abs (only_number numbers) == C.size) (order_step K C rest) (rejected 2 reason.Size)) objects_written refl
+      ∙ ap (λ (t : Bool). cond t (order_step K C from_order) (rejected 2 reason.Size)) (eq-eqb (length c.order) C.size size_is)
+      ∙ order_holds K closes
 
   pub lines_written : AreWritten (certificate_lines c)
   lines_written =
       (version_written, (objects_written, (order_written, (value_written, (bound_written, (count_written, AreWritten-append (map cut_line c.cuts) from_tree (cuts_written C.size c.cuts weights.within_limit holds.cuts_are holds.cuts_fit holds.cuts_shaped) (AreWritten-append (tree_lines c.tree) (end_line ∷ []) (tree_written C weights c.cuts c.bound holds.few_cuts [] c.tree holds.tree_is) (end_written, tt))))))))
 
   -- the text of a true certificate is accepted, with its value and bound
-  pub check_answer-certificate_text : length (certificate_text c) ≤ 2 ^ 40 → check_answer C (certificate_text c) ≡ accepted c.value c.bound
-  check_answer-certificate_text fits =
-      ap (λ (lines : List TextLine). expect is_version 1 lines (λ _ rest. objects_step C rest)) (text_lines-text (certificate_lines c) lines_written fits)
-      ∙ expect-line is_version 1 version_line from_objects (λ _ rest. objects_step C rest) version_written refl
-      ∙ objects_holds
+  pub IsCheckAnswer-certificate_text : length (certificate_text c) ≤ 2 ^ 40 → IsCheckAnswer C (certificate_text c) (accepted c.value c.bound)
+  IsCheckAnswer-certificate_text fits K closes =
+      ap (λ (lines : List TextLine). expect is_version 1 lines (λ _ rest. objects_step K C rest)) (text_lines-text (certificate_lines c) lines_written fits)
+      ∙ expect-line is_version 1 version_line from_objects (λ _ rest. objects_step K C rest) version_written refl
+      ∙ objects_holds K closes

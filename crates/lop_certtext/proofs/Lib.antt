@@ -1,8 +1,7 @@
 pub mod Numbers
 pub mod Lines
 pub mod Steps
-pub mod PairList
-pub mod ChainLemmas
+pub mod PathLemmas
 pub mod TreeBounds
 pub mod CutTests
 pub mod ObjectNumbers
@@ -10,3 +9,4 @@ pub mod CutText
 pub mod NodeText
 pub mod AcceptedText
 pub mod OnlyTrue
+pub mod Unique

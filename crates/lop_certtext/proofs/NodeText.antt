@@ -7,7 +7,7 @@ use Rattle.std.proofs.lemmas.Fmt.{length_signed_le}
 use Rattle.std.proofs.lemmas.List.{length-append}
 use Rattle.std.proofs.lemmas.List.Elements.{All-nil, All-cons, All-head, All-tail}
 use Rattle.lop_model.specs.declared.pair.Pair.{Pair}
-use Rattle.lop_model.specs.Fixings.{IsUndecided}
+use Rattle.lop_model.specs.Fixings.{IsClosure, IsUndecided}
 use Rattle.lop_certtext.specs.declared.word.CertWord.TheVariants.{SplitLine, Leaf}
 use Rattle.lop_certtext.specs.Line.{most_cuts, is_count, is_row, line_text}
 use Rattle.lop_certtext.specs.Reading.{number_word}
@@ -15,7 +15,7 @@ use Rattle.lop_certtext.specs.CutLine.{numbers_of_objects, name_objects}
 use Rattle.lop_certtext.specs.LeafLine.{CutTerm, LeafTerms, term_numbers, leaf_line, terms_of, are_rising, is_leaf_row, leaf_of}
 use Rattle.lop_certtext.specs.Tree.{split_line}
 use Rattle.lop_certtext.specs.Answer.{may_split, split_of}
-use Rattle.lop_certtext.proofs.ChainLemmas.{undecided-may_split, may_split-undecided}
+use Rattle.lop_certtext.proofs.PathLemmas.{undecided-may_split, may_split-undecided}
 use Rattle.lop_certtext.proofs.ObjectNumbers.{one_object, name_objects-numbers}
 use Rattle.lop_certtext.proofs.TreeBounds.{IsNumbered}
 
@@ -161,20 +161,20 @@ pub record IsSplitLine (n : ℕ) (path : List Pair) (ns : List ℤ) (p : Pair) :
   pub line : split_line p ≡ record { word = SplitLine; numbers = ns }
   pub undecided : IsUndecided n path p.before p.after
 
-pub line-split_of : (n : ℕ) (path : List Pair) (ns : List ℤ) (p : Pair) → split_of n path ns ≡ Some p → IsSplitLine n path ns p
-line-split_of n path [] p e = absurd (cc)
-line-split_of n path (a ∷ []) p e = absurd (cc)
-line-split_of n path (a ∷ b ∷ c ∷ ns) p e = absurd (cc)
-line-split_of n path (a ∷ b ∷ []) p e = by (name_objects n (a ∷ b ∷ []) && may_split path made) refl e
+pub line-split_of : (n : ℕ) (path G : List Pair) (ns : List ℤ) (p : Pair) → IsClosure path G → split_of n G ns ≡ Some p → IsSplitLine n path ns p
+line-split_of n path G [] p closure e = absurd (cc)
+line-split_of n path G (a ∷ []) p closure e = absurd (cc)
+line-split_of n path G (a ∷ b ∷ c ∷ ns) p closure e = absurd (cc)
+line-split_of n path G (a ∷ b ∷ []) p closure e = by (name_objects n (a ∷ b ∷ []) && may_split G made) refl e
   where
     made : Pair
     made = record { before = nat_abs a - 1; after = nat_abs b - 1 }
 
-    by : (t : Bool) → (name_objects n (a ∷ b ∷ []) && may_split path made) ≡ t → cond t (Some made) None ≡ Some p → IsSplitLine n path (a ∷ b ∷ []) p
+    by : (t : Bool) → (name_objects n (a ∷ b ∷ []) && may_split G made) ≡ t → cond t (Some made) None ≡ Some p → IsSplitLine n path (a ∷ b ∷ []) p
     by false is e = absurd (cc)
     by true is e =
         let same : made ≡ p = cc in
-        let parts = and_parts (name_objects n (a ∷ b ∷ [])) (may_split path made) is in
+        let parts = and_parts (name_objects n (a ∷ b ∷ [])) (may_split G made) is in
         let first = and_parts _ (name_objects n (b ∷ [])) parts.0 in
         let second = and_parts _ (name_objects n []) first.1 in
         let x = one_object n a first.0 in
@@ -182,16 +182,16 @@ line-split_of n path (a ∷ b ∷ []) p e = by (name_objects n (a ∷ b ∷ []) 
         subst (λ (q : Pair). IsSplitLine n path (a ∷ b ∷ []) q) same record {
           line = ap (λ (z : ℤ). record { word = SplitLine; numbers = z ∷ pos ((nat_abs b - 1) + 1) ∷ [] }) x.0
               ∙ ap (λ (z : ℤ). record { word = SplitLine; numbers = a ∷ z ∷ [] }) y.0;
-          undecided = undecided-may_split n path made x.1 y.1 parts.1;
+          undecided = undecided-may_split path G closure n made x.1 y.1 parts.1;
         }
 
-pub split_of-line : (n : ℕ) (path : List Pair) (p : Pair) → IsUndecided n path p.before p.after → split_of n path (split_line p).numbers ≡ Some p
-split_of-line n path p u =
+pub split_of-line : (n : ℕ) (path G : List Pair) (p : Pair) → IsClosure path G → IsUndecided n path p.before p.after → split_of n G (split_line p).numbers ≡ Some p
+split_of-line n path G p closure u =
     let before : (p.before + 1) - 1 ≡ p.before = omega arith in
     let after : (p.after + 1) - 1 ≡ p.after = omega arith in
     let ns = numbers_of_objects (p.before ∷ p.after ∷ []) in
-    let at : Pair → Option Pair = λ q. cond (name_objects n ns && may_split path q) (Some q) None in
+    let at : Pair → Option Pair = λ q. cond (name_objects n ns && may_split G q) (Some q) None in
     let named : name_objects n ns ≡ true = name_objects-numbers n (p.before ∷ p.after ∷ []) (All-cons (λ x. x < n) p.before (p.after ∷ []) u.first (All-cons (λ x. x < n) p.after [] u.second (All-nil (λ x. x < n)))) in
     ap (λ (x : ℕ). at (record { before = x; after = (p.after + 1) - 1 })) before
     ∙ ap (λ (y : ℕ). at (record { before = p.before; after = y })) after
-    ∙ ap (λ (t : Bool). cond {A = Option Pair} t (Some p) None) (and_from (name_objects n ns) (may_split path p) named (may_split-undecided n path p u))
+    ∙ ap (λ (t : Bool). cond {A = Option Pair} t (Some p) None) (and_from (name_objects n ns) (may_split G p) named (may_split-undecided path G closure n p u))

@@ -18,12 +18,14 @@ use Rattle.lop_certtext.specs.declared.reason.Reason.{Reason}
 use Rattle.lop_certtext.specs.declared.reason.Reason.TheVariants as reason
 use Rattle.lop_certtext.specs.Line.{CertLine, most_cuts, is_count, is_signed, is_row, line_text, line_reading, first_word, cert_words, numbers_of, row_of, pieces_reading}
 use Rattle.lop_certtext.specs.Reading.{pieces}
-use Rattle.lop_certtext.specs.Chains.{reversed}
+use Rattle.lop_model.specs.Closing.{AreClosures, closed}
+use Rattle.lop_model.proofs.Closings.{AreClosures-closed}
+use Rattle.lop_cuts.proofs.CertifiedPaths.{CertifiesUnder-one}
 use Rattle.lop_certtext.specs.CutLine.{numbers_of_objects, objects_of, cut_line, cut_of, IsShapedCut}
-use Rattle.lop_certtext.specs.LeafLine.{LeafTerms, leaf_line, leaf_of}
-use Rattle.lop_certtext.specs.Tree.{Tree, leaf, split, split_line, tree_lines, IsTree}
+use Rattle.lop_certtext.specs.LeafLine.{LeafTerms, leaf_line, leaf_of, terms_in}
+use Rattle.lop_certtext.specs.Tree.{reversed, Tree, leaf, split, split_line, tree_lines, IsTree}
 use Rattle.lop_certtext.specs.Certificate.{Certificate, certificate_lines, text_of, IsTreeCertificate, IsCertificateText}
-use Rattle.lop_certtext.specs.Answer.{TextLine, ended_line, unended_line, long_line, long_file, limited, lines_from, text_lines, CheckAnswer, accepted, rejected, with_line, spelled, expect, is_version, is_objects, is_order_line, is_value, is_bound, is_cuts, is_end, only_number, are_objects, is_order, objects_step, order_step, value_step, bound_step, cuts_step, cuts_left_step, is_cut_word, with_cut, cut_step, tree_step, node_step, split_step, leaf_step, leaf_value, leaf_limit, split_of, end_step, tail_step, check_answer}
+use Rattle.lop_certtext.specs.Answer.{TextLine, ended_line, unended_line, long_line, long_file, limited, lines_from, text_lines, CheckAnswer, accepted, rejected, with_line, spelled, expect, is_version, is_objects, is_order_line, is_value, is_bound, is_cuts, is_end, only_number, are_objects, is_order, objects_step, order_step, value_step, bound_step, cuts_step, cuts_left_step, is_cut_word, with_cut, cut_step, tree_step, node_step, split_step, leaf_step, leaf_value, leaf_limit, split_of, end_step, tail_step, check_answer, IsCheckAnswer}
 use Rattle.lop_certtext.proofs.Lines.{line_text-line_reading}
 use Rattle.lop_certtext.proofs.CutText.{count_is, line-cut_of}
 use Rattle.lop_certtext.proofs.NodeText.{line-leaf_of, line-split_of}
@@ -319,18 +321,18 @@ module _ (C : Matrix) (cuts : List CutKind) (value bound v b : ℤ) where
   Forest [] lines = (lines ≡ map ended (end_line ∷ [])) × (value ≡ v) × (bound ≡ b)
   Forest (path ∷ pending) lines = (tree : Tree) × (rest : List TextLine) × IsTree C cuts bound path tree × (lines ≡ map ended (tree_lines tree) ++ rest) × Forest pending rest
 
-  module _ (path : List Pair) (pending : List (List Pair)) (number : ℕ) (bytes : List ℕ) (lines : List TextLine) (later : (left : List (List Pair)) → tree_step C cuts value bound left (number + 1) lines ≡ accepted v b → Forest left lines) where
+  module _ (K : List Pair → List Pair) (closes : AreClosures K) (path : List Pair) (pending : List (List Pair)) (number : ℕ) (bytes : List ℕ) (lines : List TextLine) (later : (left : List (List Pair)) → tree_step K C cuts value bound left (number + 1) lines ≡ accepted v b → Forest left lines) where
     abbrev next : List (List Pair) → CheckAnswer
-    next left = tree_step C cuts value bound left (number + 1) lines
+    next left = tree_step K C cuts value bound left (number + 1) lines
 
     first_line : (w : CertWord) (ns : List ℤ) (l : CertLine) → line_reading bytes ≡ Some (record { word = w; numbers = ns }) → l ≡ record { word = w; numbers = ns } → ended_line bytes ∷ lines ≡ ended l ∷ lines
     first_line w ns l is same =
         ap (λ (x : List ℕ). ended_line x ∷ lines) (line_text-line_reading bytes (record { word = w; numbers = ns }) is ∙ ap line_text (sym same))
 
-    split_read : (ns : List ℤ) (o : Option Pair) → line_reading bytes ≡ Some (record { word = SplitLine; numbers = ns }) → split_of C.size path ns ≡ o → split_step path pending number o next ≡ accepted v b → Forest (path ∷ pending) (ended_line bytes ∷ lines)
+    split_read : (ns : List ℤ) (o : Option Pair) → line_reading bytes ≡ Some (record { word = SplitLine; numbers = ns }) → split_of C.size (K path) ns ≡ o → split_step path pending number o next ≡ accepted v b → Forest (path ∷ pending) (ended_line bytes ∷ lines)
     split_read ns None is made e = absurd (cc)
     split_read ns (Some p) is made e =
-        let t = line-split_of C.size path ns p made in
+        let t = line-split_of C.size (K path) ns p made in
         let f = later ((path ++ p ∷ []) ∷ (path ++ reversed p ∷ []) ∷ pending) e in
         let g = f.4 in
         let both : map ended (tree_lines f.0) ++ (map ended (tree_lines g.0) ++ g.1) ≡ map ended (tree_lines f.0 ++ tree_lines g.0) ++ g.1 =
@@ -343,11 +345,11 @@ module _ (C : Matrix) (cuts : List CutKind) (value bound v b : ℤ) where
           g.4,
         )
 
-    leaf_read : (ns : List ℤ) (o : Option LeafTerms) → line_reading bytes ≡ Some (record { word = Leaf; numbers = ns }) → leaf_of (length cuts) ns ≡ o → leaf_step C cuts bound path pending number o next ≡ accepted v b → Forest (path ∷ pending) (ended_line bytes ∷ lines)
+    leaf_read : (ns : List ℤ) (o : Option LeafTerms) → line_reading bytes ≡ Some (record { word = Leaf; numbers = ns }) → leaf_of (length cuts) ns ≡ o → leaf_step C cuts bound (K path) pending number o next ≡ accepted v b → Forest (path ∷ pending) (ended_line bytes ∷ lines)
     leaf_read ns None is made e = absurd (cc)
     leaf_read ns (Some l) is made e =
         let t = line-leaf_of (length cuts) ns l (row-pieces_reading (pieces bytes) (record { word = Leaf; numbers = ns }) is) made in
-        let p = passed v b (int_lt (leaf_value C cuts path l) (leaf_limit l bound)) (next pending) number (reason.High (leaf_value C cuts path l) (leaf_limit l bound)) e in (
+        let p = passed v b (int_lt (leaf_value C cuts (K path) l) (leaf_limit l bound)) (next pending) number (reason.High (leaf_value C cuts (K path) l) (leaf_limit l bound)) e in (
           leaf l,
           lines,
           record {
@@ -356,29 +358,29 @@ module _ (C : Matrix) (cuts : List CutKind) (value bound v b : ℤ) where
             few = t.few;
             rising = t.rising;
             multipliers = t.multipliers;
-            certified = int_lt-less (leaf_value C cuts path l) (leaf_limit l bound) p.0;
+            certified = CertifiesUnder-one C path (K path) l.scale (terms_in cuts l.terms) bound (closes.each path) (int_lt-less (leaf_value C cuts (K path) l) (leaf_limit l bound) p.0);
           },
           first_line Leaf ns (leaf_line l) is t.line,
           later pending p.1,
         )
 
-    node_read : (w : CertWord) (ns : List ℤ) → line_reading bytes ≡ Some (record { word = w; numbers = ns }) → node_step C cuts bound path pending number w ns next ≡ accepted v b → Forest (path ∷ pending) (ended_line bytes ∷ lines)
-    node_read SplitLine ns is e = split_read ns (split_of C.size path ns) is refl e
+    node_read : (w : CertWord) (ns : List ℤ) → line_reading bytes ≡ Some (record { word = w; numbers = ns }) → node_step C cuts bound (K path) path pending number w ns next ≡ accepted v b → Forest (path ∷ pending) (ended_line bytes ∷ lines)
+    node_read SplitLine ns is e = split_read ns (split_of C.size (K path) ns) is refl e
     node_read Leaf ns is e = leaf_read ns (leaf_of (length cuts) ns) is refl e
     node_read w ns is e = absurd (cc)
 
-    line_read : (o : Option CertLine) → line_reading bytes ≡ o → with_line number o (λ l. node_step C cuts bound path pending number l.word l.numbers next) ≡ accepted v b → Forest (path ∷ pending) (ended_line bytes ∷ lines)
+    line_read : (o : Option CertLine) → line_reading bytes ≡ o → with_line number o (λ l. node_step C cuts bound (K path) path pending number l.word l.numbers next) ≡ accepted v b → Forest (path ∷ pending) (ended_line bytes ∷ lines)
     line_read None is e = absurd (cc)
     line_read (Some l) is e = node_read l.word l.numbers is e
 
-  trees_read : (pending : List (List Pair)) (number : ℕ) (lines : List TextLine) → tree_step C cuts value bound pending number lines ≡ accepted v b → Forest pending lines
-  trees_read [] number lines e = end_read v b value bound number lines e
-  trees_read (path ∷ pending) number [] e = absurd (cc)
-  trees_read (path ∷ pending) number (long_file ∷ lines) e = absurd (cc)
-  trees_read (path ∷ pending) number (long_line ∷ lines) e = absurd (cc)
-  trees_read (path ∷ pending) number (unended_line bytes ∷ lines) e = absurd (cc)
-  trees_read (path ∷ pending) number (ended_line bytes ∷ lines) e =
-      line_read path pending number bytes lines (λ left. trees_read left (number + 1) lines) (line_reading bytes) refl e
+  trees_read : (K : List Pair → List Pair) → AreClosures K → (pending : List (List Pair)) (number : ℕ) (lines : List TextLine) → tree_step K C cuts value bound pending number lines ≡ accepted v b → Forest pending lines
+  trees_read K closes [] number lines e = end_read v b value bound number lines e
+  trees_read K closes (path ∷ pending) number [] e = absurd (cc)
+  trees_read K closes (path ∷ pending) number (long_file ∷ lines) e = absurd (cc)
+  trees_read K closes (path ∷ pending) number (long_line ∷ lines) e = absurd (cc)
+  trees_read K closes (path ∷ pending) number (unended_line bytes ∷ lines) e = absurd (cc)
+  trees_read K closes (path ∷ pending) number (ended_line bytes ∷ lines) e =
+      line_read K closes path pending number bytes lines (λ left. trees_read K closes left (number + 1) lines) (line_reading bytes) refl e
 
 -- the cuts of so many lines, and the tree behind them
 record CutsRead (C : Matrix) (value bound v b : ℤ) (k : ℕ) (cuts : List CutKind) (lines : List TextLine) : Type 0 where
@@ -391,15 +393,15 @@ record CutsRead (C : Matrix) (value bound v b : ℤ) (k : ℕ) (cuts : List CutK
   lines_are : lines ≡ map ended (map cut_line more) ++ rest
   forest : Forest C (cuts ++ more) value bound v b ([] ∷ []) rest
 
-module _ (C : Matrix) (value bound v b : ℤ) where
-  cut_read : (k : ℕ) (cuts : List CutKind) (number : ℕ) (lines : List TextLine) (x : Spelled lines (λ line rest. cut_step C.size number line.word line.numbers (λ cut. cuts_left_step C value bound k (cuts ++ cut ∷ []) (number + 1) rest)) (accepted v b))
-      → ((cut : CutKind) → cuts_left_step C value bound k (cuts ++ cut ∷ []) (number + 1) x.rest ≡ accepted v b → CutsRead C value bound v b k (cuts ++ cut ∷ []) x.rest) → CutsRead C value bound v b (suc k) cuts lines
+module _ (K : List Pair → List Pair) (closes : AreClosures K) (C : Matrix) (value bound v b : ℤ) where
+  cut_read : (k : ℕ) (cuts : List CutKind) (number : ℕ) (lines : List TextLine) (x : Spelled lines (λ line rest. cut_step C.size number line.word line.numbers (λ cut. cuts_left_step K C value bound k (cuts ++ cut ∷ []) (number + 1) rest)) (accepted v b))
+      → ((cut : CutKind) → cuts_left_step K C value bound k (cuts ++ cut ∷ []) (number + 1) x.rest ≡ accepted v b → CutsRead C value bound v b k (cuts ++ cut ∷ []) x.rest) → CutsRead C value bound v b (suc k) cuts lines
   cut_read k cuts number lines x later =
-      let next : CutKind → CheckAnswer = λ cut. cuts_left_step C value bound k (cuts ++ cut ∷ []) (number + 1) x.rest in
+      let next : CutKind → CheckAnswer = λ cut. cuts_left_step K C value bound k (cuts ++ cut ∷ []) (number + 1) x.rest in
       let p = passed v b (is_cut_word x.line.word) (with_cut number (cut_of C.size x.line.word x.line.numbers) next) number reason.Spelling x.follows in
       by (cut_of C.size x.line.word x.line.numbers) refl p.1
     where
-      by : (o : Option CutKind) → cut_of C.size x.line.word x.line.numbers ≡ o → with_cut number o (λ cut. cuts_left_step C value bound k (cuts ++ cut ∷ []) (number + 1) x.rest) ≡ accepted v b → CutsRead C value bound v b (suc k) cuts lines
+      by : (o : Option CutKind) → cut_of C.size x.line.word x.line.numbers ≡ o → with_cut number o (λ cut. cuts_left_step K C value bound k (cuts ++ cut ∷ []) (number + 1) x.rest) ≡ accepted v b → CutsRead C value bound v b (suc k) cuts lines
       by None is e = absurd (cc)
       by (Some cut) is e =
           let t = line-cut_of C.size x.line.word x.line.numbers cut x.row is in
@@ -415,7 +417,7 @@ module _ (C : Matrix) (value bound v b : ℤ) where
             forest = subst (λ (l : List CutKind). Forest C l value bound v b ([] ∷ []) r.rest) (append_assoc cuts (cut ∷ []) r.more) r.forest;
           }
 
-  cuts_left_read : (k : ℕ) (cuts : List CutKind) (number : ℕ) (lines : List TextLine) → cuts_left_step C value bound k cuts number lines ≡ accepted v b → CutsRead C value bound v b k cuts lines
+  cuts_left_read : (k : ℕ) (cuts : List CutKind) (number : ℕ) (lines : List TextLine) → cuts_left_step K C value bound k cuts number lines ≡ accepted v b → CutsRead C value bound v b k cuts lines
   cuts_left_read zero cuts number lines e = record {
     more = [];
     rest = lines;
@@ -424,13 +426,13 @@ module _ (C : Matrix) (value bound v b : ℤ) where
     fit = All-nil (FitsCut C.size);
     shaped = All-nil IsShapedCut;
     lines_are = refl;
-    forest = subst (λ (l : List CutKind). Forest C l value bound v b ([] ∷ []) lines) (sym (append-nil cuts)) (trees_read C cuts value bound v b ([] ∷ []) number lines e);
+    forest = subst (λ (l : List CutKind). Forest C l value bound v b ([] ∷ []) lines) (sym (append-nil cuts)) (trees_read C cuts value bound v b K closes ([] ∷ []) number lines e);
   }
   cuts_left_read (suc k) cuts number lines e =
-      let x = spelled_there v b number lines (λ line rest. cut_step C.size number line.word line.numbers (λ cut. cuts_left_step C value bound k (cuts ++ cut ∷ []) (number + 1) rest)) e in
+      let x = spelled_there v b number lines (λ line rest. cut_step C.size number line.word line.numbers (λ cut. cuts_left_step K C value bound k (cuts ++ cut ∷ []) (number + 1) rest)) e in
       cut_read k cuts number lines x (λ cut. cuts_left_read k (cuts ++ cut ∷ []) (number + 1) x.rest)
 
-module _ (C : Matrix) (v b : ℤ) where
+module _ (K : List Pair → List Pair) (closes : AreClosures K) (C : Matrix) (v b : ℤ) where
   -- the lines from the number of cuts on
   record FromCuts (value bound : ℤ) (lines : List TextLine) : Type 0 where
     cuts : List CutKind
@@ -444,12 +446,12 @@ module _ (C : Matrix) (v b : ℤ) where
     value_is : value ≡ v
     bound_is : bound ≡ b
 
-  cuts_read : (value bound : ℤ) (lines : List TextLine) → cuts_step C value bound lines ≡ accepted v b → FromCuts value bound lines
+  cuts_read : (value bound : ℤ) (lines : List TextLine) → cuts_step K C value bound lines ≡ accepted v b → FromCuts value bound lines
   cuts_read value bound lines e =
-      let x = expected v b is_cuts 6 lines (λ numbers rest. cuts_left_step C value bound (nat_abs (only_number numbers)) [] 7 rest) e in
-      with_rest x (cuts_left_read C value bound v b (nat_abs (only_number x.line.numbers)) [] 7 x.rest x.follows)
+      let x = expected v b is_cuts 6 lines (λ numbers rest. cuts_left_step K C value bound (nat_abs (only_number numbers)) [] 7 rest) e in
+      with_rest x (cuts_left_read K closes C value bound v b (nat_abs (only_number x.line.numbers)) [] 7 x.rest x.follows)
     where
-      with_rest : (x : Expected is_cuts lines (λ numbers rest. cuts_left_step C value bound (nat_abs (only_number numbers)) [] 7 rest) (accepted v b)) → CutsRead C value bound v b (nat_abs (only_number x.line.numbers)) [] x.rest → FromCuts value bound lines
+      with_rest : (x : Expected is_cuts lines (λ numbers rest. cuts_left_step K C value bound (nat_abs (only_number numbers)) [] 7 rest) (accepted v b)) → CutsRead C value bound v b (nat_abs (only_number x.line.numbers)) [] x.rest → FromCuts value bound lines
       with_rest x r =
           let f = r.forest in
           let word = due-cuts x.line.word x.due in
@@ -488,12 +490,12 @@ module _ (C : Matrix) (v b : ℤ) where
     value_is : value ≡ v
     bound_signed : is_signed b ≡ true
 
-  bound_read : (value : ℤ) (lines : List TextLine) → bound_step C value lines ≡ accepted v b → FromBound value lines
+  bound_read : (value : ℤ) (lines : List TextLine) → bound_step K C value lines ≡ accepted v b → FromBound value lines
   bound_read value lines e =
-      let x = expected v b is_bound 5 lines (λ numbers rest. cuts_step C value (only_number numbers) rest) e in
+      let x = expected v b is_bound 5 lines (λ numbers rest. cuts_step K C value (only_number numbers) rest) e in
       with_rest x (cuts_read value (only_number x.line.numbers) x.rest x.follows)
     where
-      with_rest : (x : Expected is_bound lines (λ numbers rest. cuts_step C value (only_number numbers) rest) (accepted v b)) → FromCuts value (only_number x.line.numbers) x.rest → FromBound value lines
+      with_rest : (x : Expected is_bound lines (λ numbers rest. cuts_step K C value (only_number numbers) rest) (accepted v b)) → FromCuts value (only_number x.line.numbers) x.rest → FromBound value lines
       with_rest x last =
           let word = due-bound x.line.word x.due in
           let row = row-bound x.line.numbers (row_at x.line.numbers x.line.word Bound word x.row) in
@@ -525,14 +527,14 @@ module _ (C : Matrix) (v b : ℤ) where
     value_signed : is_signed v ≡ true
     bound_signed : is_signed b ≡ true
 
-  value_read : (s : List ℕ) (lines : List TextLine) → value_step C s lines ≡ accepted v b → FromValue s lines
+  value_read : (s : List ℕ) (lines : List TextLine) → value_step K C s lines ≡ accepted v b → FromValue s lines
   value_read s lines e =
-      let x = expected v b is_value 4 lines (λ numbers rest. cond (int_le (only_number numbers) (weight C s) && int_le (weight C s) (only_number numbers)) (bound_step C (only_number numbers) rest) (rejected 4 (reason.Value (only_number numbers) (weight C s)))) e in
+      let x = expected v b is_value 4 lines (λ numbers rest. cond (int_le (only_number numbers) (weight C s) && int_le (weight C s) (only_number numbers)) (bound_step K C (only_number numbers) rest) (rejected 4 (reason.Value (only_number numbers) (weight C s)))) e in
       let value = only_number x.line.numbers in
-      let t = passed v b (int_le value (weight C s) && int_le (weight C s) value) (bound_step C value x.rest) 4 (reason.Value value (weight C s)) x.follows in
+      let t = passed v b (int_le value (weight C s) && int_le (weight C s) value) (bound_step K C value x.rest) 4 (reason.Value value (weight C s)) x.follows in
       with_rest x t.0 (bound_read value x.rest t.1)
     where
-      with_rest : (x : Expected is_value lines (λ numbers rest. cond (int_le (only_number numbers) (weight C s) && int_le (weight C s) (only_number numbers)) (bound_step C (only_number numbers) rest) (rejected 4 (reason.Value (only_number numbers) (weight C s)))) (accepted v b)) → (int_le (only_number x.line.numbers) (weight C s) && int_le (weight C s) (only_number x.line.numbers)) ≡ true → FromBound (only_number x.line.numbers) x.rest → FromValue s lines
+      with_rest : (x : Expected is_value lines (λ numbers rest. cond (int_le (only_number numbers) (weight C s) && int_le (weight C s) (only_number numbers)) (bound_step K C (only_number numbers) rest) (rejected 4 (reason.Value (only_number numbers) (weight C s)))) (accepted v b)) → (int_le (only_number x.line.numbers) (weight C s) && int_le (weight C s) (only_number x.line.numbers)) ≡ true → FromBound (only_number x.line.numbers) x.rest → FromValue s lines
       with_rest x t last =
           let word = due-value x.line.word x.due in
           let row = row-value x.line.numbers (row_at x.line.numbers x.line.word Value word x.row) in
@@ -559,13 +561,13 @@ module _ (C : Matrix) (v b : ℤ) where
     bound_is : certificate.bound ≡ b
     lines_are : lines ≡ map ended (order_line certificate ∷ value_line certificate ∷ bound_line certificate ∷ cuts_line certificate ∷ map cut_line certificate.cuts ++ (tree_lines certificate.tree ++ end_line ∷ []))
 
-  order_read : (lines : List TextLine) → order_step C lines ≡ accepted v b → FromOrder lines
+  order_read : (lines : List TextLine) → order_step K C lines ≡ accepted v b → FromOrder lines
   order_read lines e =
-      let x = expected v b is_order_line 3 lines (λ numbers rest. cond (is_order C.size numbers) (value_step C (objects_of numbers) rest) (rejected 3 reason.OrderLine)) e in
-      let t = passed v b (is_order C.size x.line.numbers) (value_step C (objects_of x.line.numbers) x.rest) 3 reason.OrderLine x.follows in
+      let x = expected v b is_order_line 3 lines (λ numbers rest. cond (is_order C.size numbers) (value_step K C (objects_of numbers) rest) (rejected 3 reason.OrderLine)) e in
+      let t = passed v b (is_order C.size x.line.numbers) (value_step K C (objects_of x.line.numbers) x.rest) 3 reason.OrderLine x.follows in
       with_rest x (IsOrder-is_order C.size x.line.numbers t.0) (value_read (objects_of x.line.numbers) x.rest t.1)
     where
-      with_rest : (x : Expected is_order_line lines (λ numbers rest. cond (is_order C.size numbers) (value_step C (objects_of numbers) rest) (rejected 3 reason.OrderLine)) (accepted v b)) → IsOrder C.size (objects_of x.line.numbers) × (numbers_of_objects (objects_of x.line.numbers) ≡ x.line.numbers) → FromValue (objects_of x.line.numbers) x.rest → FromOrder lines
+      with_rest : (x : Expected is_order_line lines (λ numbers rest. cond (is_order C.size numbers) (value_step K C (objects_of numbers) rest) (rejected 3 reason.OrderLine)) (accepted v b)) → IsOrder C.size (objects_of x.line.numbers) × (numbers_of_objects (objects_of x.line.numbers) ≡ x.line.numbers) → FromValue (objects_of x.line.numbers) x.rest → FromOrder lines
       with_rest x order last =
           let s = objects_of x.line.numbers in
           let c : Certificate = record { order = s; value = v; bound = b; cuts = last.cuts; tree = last.tree } in
@@ -595,13 +597,13 @@ module _ (C : Matrix) (v b : ℤ) where
     bound_is : certificate.bound ≡ b
     lines_are : lines ≡ map ended (objects_line certificate ∷ order_line certificate ∷ value_line certificate ∷ bound_line certificate ∷ cuts_line certificate ∷ map cut_line certificate.cuts ++ (tree_lines certificate.tree ++ end_line ∷ []))
 
-  objects_read : (lines : List TextLine) → objects_step C lines ≡ accepted v b → FromObjects lines
+  objects_read : (lines : List TextLine) → objects_step K C lines ≡ accepted v b → FromObjects lines
   objects_read lines e =
-      let x = expected v b is_objects 2 lines (λ numbers rest. cond (nat_abs (only_number numbers) == C.size) (order_step C rest) (rejected 2 reason.Size)) e in
-      let t = passed v b (nat_abs (only_number x.line.numbers) == C.size) (order_step C x.rest) 2 reason.Size x.follows in
+      let x = expected v b is_objects 2 lines (λ numbers rest. cond (nat_abs (only_number numbers) == C.size) (order_step K C rest) (rejected 2 reason.Size)) e in
+      let t = passed v b (nat_abs (only_number x.line.numbers) == C.size) (order_step K C x.rest) 2 reason.Size x.follows in
       with_rest x (eqb-true (nat_abs (only_number x.line.numbers)) C.size t.0) (order_read x.rest t.1)
     where
-      with_rest : (x : Expected is_objects lines (λ numbers rest. cond (nat_abs (only_number numbers) == C.size) (order_step C rest) (rejected 2 reason.Size)) (accepted v b)) → nat_abs (only_number x.line.numbers) ≡ C.size → FromOrder x.rest → FromObjects lines
+      with_rest : (x : Expected is_objects lines (λ numbers rest. cond (nat_abs (only_number numbers) == C.size) (order_step K C rest) (rejected 2 reason.Size)) (accepted v b)) → nat_abs (only_number x.line.numbers) ≡ C.size → FromOrder x.rest → FromObjects lines
       with_rest x size last =
           let c = last.certificate in
           let word = due-objects x.line.word x.due in
@@ -616,12 +618,12 @@ module _ (C : Matrix) (v b : ℤ) where
           }
 
 -- nothing else is accepted
-pub IsCertificateText-check_answer : (C : Matrix) (bytes : List ℕ) (v b : ℤ) → check_answer C bytes ≡ accepted v b → IsCertificateText C bytes v b
-IsCertificateText-check_answer C bytes v b e =
-    let x = expected v b is_version 1 (text_lines bytes) (λ _ rest. objects_step C rest) e in
-    with_rest x (objects_read C v b x.rest x.follows)
+pub IsCertificateText-IsCheckAnswer : (C : Matrix) (bytes : List ℕ) (v b : ℤ) → IsCheckAnswer C bytes (accepted v b) → IsCertificateText C bytes v b
+IsCertificateText-IsCheckAnswer C bytes v b is =
+    let x = expected v b is_version 1 (text_lines bytes) (λ _ rest. objects_step closed C rest) (is closed AreClosures-closed) in
+    with_rest x (objects_read closed AreClosures-closed C v b x.rest x.follows)
   where
-    with_rest : (x : Expected is_version (text_lines bytes) (λ _ rest. objects_step C rest) (accepted v b)) → FromObjects C v b x.rest → IsCertificateText C bytes v b
+    with_rest : (x : Expected is_version (text_lines bytes) (λ _ rest. objects_step closed C rest) (accepted v b)) → FromObjects closed AreClosures-closed C v b x.rest → IsCertificateText C bytes v b
     with_rest x last =
         let c = last.certificate in
         let word = due-version x.line.word x.due in

@@ -12,13 +12,15 @@ use Rattle.lop_model.proofs.OrderLemmas.{places_apart}
 use Rattle.lop_cuts.specs.declared.kind.CutKind.{CutKind}
 use Rattle.lop_cuts.specs.declared.kind.CutKind.TheVariants as kind
 use Rattle.lop_cuts.specs.Kind.{IsCut}
-use Rattle.lop_cuts.specs.Lagrangian.{Certifies}
+use Rattle.lop_model.specs.Closing.{closed}
+use Rattle.lop_model.proofs.FixingsLemmas.{IsLinearExtension-closure}
+use Rattle.lop_model.proofs.Closings.{IsClosure-closed}
+use Rattle.lop_cuts.specs.Certifying.{CertifiesUnder}
 use Rattle.lop_cuts.proofs.LagrangianLemmas.{AreValid-AreCuts, weight-le-certified}
-use Rattle.lop_certtext.specs.Chains.{reversed, closure_below}
 use Rattle.lop_certtext.specs.LeafLine.{CutTerm, LeafTerms, are_rising, cut_at, terms_in}
-use Rattle.lop_certtext.specs.Tree.{Tree, leaf, split, IsLeaf, IsTree}
+use Rattle.lop_certtext.specs.Tree.{reversed, Tree, leaf, split, IsLeaf, IsTree}
 use Rattle.lop_certtext.specs.Certificate.{Certificate, IsTreeCertificate}
-use Rattle.lop_certtext.proofs.ChainLemmas.{extends_more, extends_closure}
+use Rattle.lop_certtext.proofs.PathLemmas.{extends_more}
 
 -- the number of a cut is one of 1 to count
 abbrev pub IsNumbered : ℕ → CutTerm → Type 0
@@ -46,11 +48,11 @@ one_way n s a b o la lb ne =
     elim (cases_lt (place_of s a) (place_of s b)) [ inl lt ↦ inl lt | inr ge ↦ inr (omega (arith, apart)) ]
 
 -- terms that certify a bound bound the orders that keep the path
-pub certified_bounds : (C : Matrix) (cuts : List CutKind) (b : ℤ) (path : List Pair) (l : LeafTerms) → All IsCut cuts → are_rising 0 (length cuts) l.terms ≡ true → Certifies C (closure_below C.size path) l.scale (terms_in cuts l.terms) b → (s : List ℕ) → IsOrder C.size s → IsLinearExtension s path → weight C s ≤ℤ b
+pub certified_bounds : (C : Matrix) (cuts : List CutKind) (b : ℤ) (path : List Pair) (l : LeafTerms) → All IsCut cuts → are_rising 0 (length cuts) l.terms ≡ true → CertifiesUnder C path l.scale (terms_in cuts l.terms) b → (s : List ℕ) → IsOrder C.size s → IsLinearExtension s path → weight C s ≤ℤ b
 certified_bounds C cuts b path l right rising certified s o x =
     let terms = terms_in cuts l.terms in
-    weight-le-certified C (closure_below C.size path) l.scale terms b s o (extends_closure C.size s path x)
-    (AreValid-AreCuts C.size terms (AreCuts-terms_in cuts l.terms right (numbered-rising 0 (length cuts) l.terms rising))) certified
+    weight-le-certified C (closed path) l.scale terms b s o (IsLinearExtension-closure s path (closed path) (IsClosure-closed path) x)
+    (AreValid-AreCuts C.size terms (AreCuts-terms_in cuts l.terms right (numbered-rising 0 (length cuts) l.terms rising))) (certified.each (closed path) (IsClosure-closed path))
 
 -- so does a leaf
 pub leaf_bounds : (C : Matrix) (cuts : List CutKind) (b : ℤ) (path : List Pair) (l : LeafTerms) → All IsCut cuts → IsLeaf C cuts b path l → (s : List ℕ) → IsOrder C.size s → IsLinearExtension s path → weight C s ≤ℤ b

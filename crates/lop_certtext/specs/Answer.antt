@@ -1,8 +1,10 @@
 -- What the checker answers: a walk over the lines, in which the first test that fails gives line and reason.
-use Rattle.std.specs.Prelude.{ℕ, zero, suc, ◌+◌, ◌^◌, Bool, true, false, not, ◌&&◌, ◌==◌, nat_lt, nat_le, int_lt, int_le, List, [], ◌∷◌, ◌++◌, length, ℤ, pos, nat_abs, ◌-◌, ◌+ℤ◌, ◌*ℤ◌, Option, None, Some, if◌then◌else◌}
+use Rattle.std.specs.Prelude.{◌≡◌, ℕ, zero, suc, ◌+◌, ◌^◌, Bool, true, false, not, ◌&&◌, ◌==◌, nat_lt, nat_le, int_lt, int_le, List, [], ◌∷◌, ◌++◌, length, ℤ, pos, nat_abs, ◌-◌, ◌+ℤ◌, ◌*ℤ◌, Option, None, Some, if◌then◌else◌}
 use Rattle.std.specs.List.{list_any, slice_split}
 use Rattle.lop_model.specs.declared.pair.Pair.{Pair}
 use Rattle.lop_model.specs.Matrix.{Matrix, weight}
+use Rattle.lop_model.specs.Fixings.{has_pair}
+use Rattle.lop_model.specs.Closing.{AreClosures}
 use Rattle.lop_cuts.specs.declared.kind.CutKind.{CutKind}
 use Rattle.lop_cuts.specs.Lagrangian.{lagrangian_value}
 use Rattle.lop_certtext.specs.declared.word.CertWord.{CertWord}
@@ -10,7 +12,7 @@ use Rattle.lop_certtext.specs.declared.word.CertWord.TheVariants.{Version, Objec
 use Rattle.lop_certtext.specs.declared.reason.Reason.{Reason}
 use Rattle.lop_certtext.specs.declared.reason.Reason.TheVariants as reason
 use Rattle.lop_certtext.specs.Line.{CertLine, line_reading}
-use Rattle.lop_certtext.specs.Chains.{reversed, leads, closure_below}
+use Rattle.lop_certtext.specs.Tree.{reversed}
 use Rattle.lop_certtext.specs.CutLine.{objects_of, name_objects, cut_of}
 use Rattle.lop_certtext.specs.LeafLine.{LeafTerms, leaf_of, terms_in}
 
@@ -119,21 +121,23 @@ tail_step value bound number (unended_line bytes ∷ lines) = rejected number re
 abbrev pub end_step : ℤ → ℤ → ℕ → List TextLine → CheckAnswer
 end_step value bound number lines = expect is_end number lines (λ _ rest. tail_step value bound (number + 1) rest)
 
--- ---- the tree
+-- ---- the tree. K gives each path its closure.
 
--- the pair has two objects, and no chain of the path leads from one to the other
+-- Here G is the closure of the path to the node.
+
+-- the pair has two objects, and the closure has it neither way round
 abbrev pub may_split : List Pair → Pair → Bool
-may_split path p = not (p.before == p.after) && not (leads path p.before p.after) && not (leads path p.after p.before)
+may_split G p = not (p.before == p.after) && not (has_pair G p.before p.after) && not (has_pair G p.after p.before)
 
--- the pair of 1 to n that a line spells, if it may be split under the path
+-- the pair of 1 to n that a line spells, if it may be split
 abbrev pub split_of : ℕ → List Pair → List ℤ → Option Pair
-split_of n path (a ∷ b ∷ []) =
-    if name_objects n (a ∷ b ∷ []) && may_split path (record { before = nat_abs a - 1; after = nat_abs b - 1 }) then Some (record { before = nat_abs a - 1; after = nat_abs b - 1 }) else None
-split_of n path ns = None
+split_of n G (a ∷ b ∷ []) =
+    if name_objects n (a ∷ b ∷ []) && may_split G (record { before = nat_abs a - 1; after = nat_abs b - 1 }) then Some (record { before = nat_abs a - 1; after = nat_abs b - 1 }) else None
+split_of n G ns = None
 
--- the number U of a leaf under a path
+-- the number U of a leaf
 abbrev pub leaf_value : Matrix → List CutKind → List Pair → LeafTerms → ℤ
-leaf_value C cuts path l = lagrangian_value C (closure_below C.size path) l.scale (terms_in cuts l.terms)
+leaf_value C cuts G l = lagrangian_value C G l.scale (terms_in cuts l.terms)
 
 -- what it has to be below
 abbrev pub leaf_limit : LeafTerms → ℤ → ℤ
@@ -146,25 +150,25 @@ split_step path pending number (Some p) next = next ((path ++ p ∷ []) ∷ (pat
 
 -- a leaf takes it away
 abbrev pub leaf_step : Matrix → List CutKind → ℤ → List Pair → List (List Pair) → ℕ → Option LeafTerms → (List (List Pair) → CheckAnswer) → CheckAnswer
-leaf_step C cuts bound path pending number None next = rejected number reason.Leaf
-leaf_step C cuts bound path pending number (Some l) next =
-    if int_lt (leaf_value C cuts path l) (leaf_limit l bound) then next pending else rejected number (reason.High (leaf_value C cuts path l) (leaf_limit l bound))
+leaf_step C cuts bound G pending number None next = rejected number reason.Leaf
+leaf_step C cuts bound G pending number (Some l) next =
+    if int_lt (leaf_value C cuts G l) (leaf_limit l bound) then next pending else rejected number (reason.High (leaf_value C cuts G l) (leaf_limit l bound))
 
--- a line of the tree, where a path is pending
-abbrev pub node_step : Matrix → List CutKind → ℤ → List Pair → List (List Pair) → ℕ → CertWord → List ℤ → (List (List Pair) → CheckAnswer) → CheckAnswer
-node_step C cuts bound path pending number SplitLine ns next = split_step path pending number (split_of C.size path ns) next
-node_step C cuts bound path pending number Leaf ns next = leaf_step C cuts bound path pending number (leaf_of (length cuts) ns) next
-node_step C cuts bound path pending number word ns next = rejected number reason.Spelling
+-- a line of the tree, where a path with the closure G is pending
+abbrev pub node_step : Matrix → List CutKind → ℤ → List Pair → List Pair → List (List Pair) → ℕ → CertWord → List ℤ → (List (List Pair) → CheckAnswer) → CheckAnswer
+node_step C cuts bound G path pending number SplitLine ns next = split_step path pending number (split_of C.size G ns) next
+node_step C cuts bound G path pending number Leaf ns next = leaf_step C cuts bound G pending number (leaf_of (length cuts) ns) next
+node_step C cuts bound G path pending number word ns next = rejected number reason.Spelling
 
 -- the lines of the tree, with the paths whose subtrees are still to come; the end is due where none is left
-abbrev pub tree_step : Matrix → List CutKind → ℤ → ℤ → List (List Pair) → ℕ → List TextLine → CheckAnswer
-tree_step C cuts value bound [] number lines = end_step value bound number lines
-tree_step C cuts value bound (path ∷ pending) number [] = rejected number reason.Short
-tree_step C cuts value bound (path ∷ pending) number (long_file ∷ lines) = too_long
-tree_step C cuts value bound (path ∷ pending) number (long_line ∷ lines) = rejected number reason.Spelling
-tree_step C cuts value bound (path ∷ pending) number (unended_line bytes ∷ lines) = rejected number reason.Spelling
-tree_step C cuts value bound (path ∷ pending) number (ended_line bytes ∷ lines) =
-    with_line number (line_reading bytes) (λ line. node_step C cuts bound path pending number line.word line.numbers (λ left. tree_step C cuts value bound left (number + 1) lines))
+abbrev pub tree_step : (List Pair → List Pair) → Matrix → List CutKind → ℤ → ℤ → List (List Pair) → ℕ → List TextLine → CheckAnswer
+tree_step K C cuts value bound [] number lines = end_step value bound number lines
+tree_step K C cuts value bound (path ∷ pending) number [] = rejected number reason.Short
+tree_step K C cuts value bound (path ∷ pending) number (long_file ∷ lines) = too_long
+tree_step K C cuts value bound (path ∷ pending) number (long_line ∷ lines) = rejected number reason.Spelling
+tree_step K C cuts value bound (path ∷ pending) number (unended_line bytes ∷ lines) = rejected number reason.Spelling
+tree_step K C cuts value bound (path ∷ pending) number (ended_line bytes ∷ lines) =
+    with_line number (line_reading bytes) (λ line. node_step C cuts bound (K path) path pending number line.word line.numbers (λ left. tree_step K C cuts value bound left (number + 1) lines))
 
 -- ---- the lines before it
 
@@ -183,30 +187,34 @@ abbrev pub cut_step : ℕ → ℕ → CertWord → List ℤ → (CutKind → Che
 cut_step n number word ns next = if is_cut_word word then with_cut number (cut_of n word ns) next else rejected number reason.Spelling
 
 -- so many cuts more, and then the tree
-abbrev pub cuts_left_step : Matrix → ℤ → ℤ → ℕ → List CutKind → ℕ → List TextLine → CheckAnswer
-cuts_left_step C value bound zero cuts number lines = tree_step C cuts value bound ([] ∷ []) number lines
-cuts_left_step C value bound (suc k) cuts number lines =
-    spelled number lines (λ line rest. cut_step C.size number line.word line.numbers (λ cut. cuts_left_step C value bound k (cuts ++ cut ∷ []) (number + 1) rest))
+abbrev pub cuts_left_step : (List Pair → List Pair) → Matrix → ℤ → ℤ → ℕ → List CutKind → ℕ → List TextLine → CheckAnswer
+cuts_left_step K C value bound zero cuts number lines = tree_step K C cuts value bound ([] ∷ []) number lines
+cuts_left_step K C value bound (suc k) cuts number lines =
+    spelled number lines (λ line rest. cut_step C.size number line.word line.numbers (λ cut. cuts_left_step K C value bound k (cuts ++ cut ∷ []) (number + 1) rest))
 
-abbrev pub cuts_step : Matrix → ℤ → ℤ → List TextLine → CheckAnswer
-cuts_step C value bound lines = expect is_cuts 6 lines (λ numbers rest. cuts_left_step C value bound (nat_abs (only_number numbers)) [] 7 rest)
+abbrev pub cuts_step : (List Pair → List Pair) → Matrix → ℤ → ℤ → List TextLine → CheckAnswer
+cuts_step K C value bound lines = expect is_cuts 6 lines (λ numbers rest. cuts_left_step K C value bound (nat_abs (only_number numbers)) [] 7 rest)
 
-abbrev pub bound_step : Matrix → ℤ → List TextLine → CheckAnswer
-bound_step C value lines = expect is_bound 5 lines (λ numbers rest. cuts_step C value (only_number numbers) rest)
+abbrev pub bound_step : (List Pair → List Pair) → Matrix → ℤ → List TextLine → CheckAnswer
+bound_step K C value lines = expect is_bound 5 lines (λ numbers rest. cuts_step K C value (only_number numbers) rest)
 
-abbrev pub value_step : Matrix → List ℕ → List TextLine → CheckAnswer
-value_step C s lines = expect is_value 4 lines
-    (λ numbers rest. if int_le (only_number numbers) (weight C s) && int_le (weight C s) (only_number numbers) then bound_step C (only_number numbers) rest
+abbrev pub value_step : (List Pair → List Pair) → Matrix → List ℕ → List TextLine → CheckAnswer
+value_step K C s lines = expect is_value 4 lines
+    (λ numbers rest. if int_le (only_number numbers) (weight C s) && int_le (weight C s) (only_number numbers) then bound_step K C (only_number numbers) rest
     else rejected 4 (reason.Value (only_number numbers) (weight C s)))
 
-abbrev pub order_step : Matrix → List TextLine → CheckAnswer
-order_step C lines = expect is_order_line 3 lines
-    (λ numbers rest. if is_order C.size numbers then value_step C (objects_of numbers) rest else rejected 3 reason.OrderLine)
+abbrev pub order_step : (List Pair → List Pair) → Matrix → List TextLine → CheckAnswer
+order_step K C lines = expect is_order_line 3 lines
+    (λ numbers rest. if is_order C.size numbers then value_step K C (objects_of numbers) rest else rejected 3 reason.OrderLine)
 
-abbrev pub objects_step : Matrix → List TextLine → CheckAnswer
-objects_step C lines = expect is_objects 2 lines
-    (λ numbers rest. if nat_abs (only_number numbers) == C.size then order_step C rest else rejected 2 reason.Size)
+abbrev pub objects_step : (List Pair → List Pair) → Matrix → List TextLine → CheckAnswer
+objects_step K C lines = expect is_objects 2 lines
+    (λ numbers rest. if nat_abs (only_number numbers) == C.size then order_step K C rest else rejected 2 reason.Size)
 
--- what the checker answers for the weights C and a text
-abbrev pub check_answer : Matrix → List ℕ → CheckAnswer
-check_answer C bytes = expect is_version 1 (text_lines bytes) (λ _ rest. objects_step C rest)
+-- what the walk answers for the weights C and a text, where K gives each path its closure
+abbrev pub check_answer : (List Pair → List Pair) → Matrix → List ℕ → CheckAnswer
+check_answer K C bytes = expect is_version 1 (text_lines bytes) (λ _ rest. objects_step K C rest)
+
+-- this is what the checker answers for the weights C and a text: every function that gives each path its closure leads to it
+abbrev pub IsCheckAnswer : Matrix → List ℕ → CheckAnswer → Type 0
+IsCheckAnswer C bytes answer = (K : List Pair → List Pair) → AreClosures K → check_answer K C bytes ≡ answer

@@ -1,5 +1,4 @@
 pub mod Line
-pub mod Chains
 pub mod CutLine
 pub mod LeafLine
 pub mod Tree

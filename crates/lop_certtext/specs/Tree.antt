@@ -4,12 +4,15 @@ use Rattle.lop_model.specs.declared.pair.Pair.{Pair}
 use Rattle.lop_model.specs.Matrix.{Matrix}
 use Rattle.lop_model.specs.Fixings.{IsUndecided}
 use Rattle.lop_cuts.specs.declared.kind.CutKind.{CutKind}
-use Rattle.lop_cuts.specs.Lagrangian.{Certifies}
+use Rattle.lop_cuts.specs.Certifying.{CertifiesUnder}
 use Rattle.lop_certtext.specs.declared.word.CertWord.TheVariants.{SplitLine}
 use Rattle.lop_certtext.specs.Line.{CertLine}
-use Rattle.lop_certtext.specs.Chains.{reversed, closure_below}
 use Rattle.lop_certtext.specs.CutLine.{numbers_of_objects}
 use Rattle.lop_certtext.specs.LeafLine.{LeafTerms, leaf_line, are_rising, terms_in}
+
+-- the pair the other way round
+abbrev pub reversed : Pair → Pair
+reversed p = record { before = p.after; after = p.before }
 
 -- each inner node has a pair and two children: the orders that keep the pair, and those that keep its reverse
 pub data Tree : Type 0 where
@@ -30,14 +33,14 @@ tree_lines (leaf l) = leaf_line l ∷ []
 tree_lines (split p first second) = split_line p ∷ (tree_lines first ++ tree_lines second)
 
 -- a leaf's scale is 1 to 65,536; it has at most 4,096 terms, by rising cut numbers, with multipliers from 1 to 2^63 - 1; and they
--- certify the bound for the orders that keep the path
+-- certify the bound under the path
 pub record IsLeaf (C : Matrix) (cuts : List CutKind) (bound : ℤ) (path : List Pair) (l : LeafTerms) : Type 0 where
   pub positive : 1 ≤ l.scale
   pub within_limit : l.scale ≤ 65536
   pub few : length l.terms ≤ 4096
   pub rising : are_rising 0 (length cuts) l.terms ≡ true
   pub multipliers : All (λ t. t.multiplier < 2 ^ 63) l.terms
-  pub certified : Certifies C (closure_below C.size path) l.scale (terms_in cuts l.terms) bound
+  pub certified : CertifiesUnder C path l.scale (terms_in cuts l.terms) bound
 
 -- each inner node's pair is undecided under the path to it, and each leaf is right under its path
 abbrev pub IsTree : Matrix → List CutKind → ℤ → List Pair → Tree → Type 0

@@ -12,3 +12,6 @@ pub mod InRangeLemmas
 pub mod FaultUniqueLemmas
 pub mod LagrangianLemmas
 pub mod PointLemmas
+pub mod ChargeLemmas
+pub mod ClosureUnique
+pub mod CertifiedPaths

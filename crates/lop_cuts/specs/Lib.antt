@@ -4,3 +4,5 @@ pub mod Fault
 pub mod Lagrangian
 pub mod Point
 pub mod CutList
+pub mod Certifying
+pub mod Charges

@@ -332,7 +332,7 @@ module _ (C : Matrix) (cuts : List CutKind) (value bound v b : ℤ) where
     split_read : (ns : List ℤ) (o : Option Pair) → line_reading bytes ≡ Some (record { word = SplitLine; numbers = ns }) → split_of C.size (K path) ns ≡ o → split_step path pending number o next ≡ accepted v b → Forest (path ∷ pending) (ended_line bytes ∷ lines)
     split_read ns None is made e = absurd (cc)
     split_read ns (Some p) is made e =
-        let t = line-split_of C.size (K path) ns p made in
+        let t = line-split_of C.size path (K path) ns p (closes.each path) made in
         let f = later ((path ++ p ∷ []) ∷ (path ++ reversed p ∷ []) ∷ pending) e in
         let g = f.4 in
         let both : map ended (tree_lines f.0) ++ (map ended (tree_lines g.0) ++ g.1) ≡ map ended (tree_lines f.0 ++ tree_lines g.0) ++ g.1 =

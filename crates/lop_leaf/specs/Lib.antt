@@ -6,3 +6,4 @@ pub mod Table
 pub mod Ticket
 pub mod Evaluated
 pub mod Sound
+pub mod Lending

@@ -1,4 +1,4 @@
-use Rattle.std.specs.Prelude.{ℕ, ◌-◌, ◌*◌, ◌/◌, ◌≤◌, ◌≡◌, List, length, ℤ}
+use Rattle.std.specs.Prelude.{ℕ, ◌-◌, ◌*◌, ◌/◌, ◌≤◌, List, ℤ}
 use Rattle.lop_model.specs.declared.pair.Pair.{Pair}
 use Rattle.lop_leaf.specs.Record.{ScaledTerms}
 
@@ -15,7 +15,7 @@ pub record TicketFields : Type 0 where
 abbrev pub pair_count : ℕ → ℕ
 pair_count n = n * (n - 1) / 2
 
--- there is room for one pair of each two objects, and the first len of it are in use
-pub record IsPathRoom (n : ℕ) (room : List Pair) (len : ℕ) : Type 0 where
-  pub whole : length room ≡ pair_count n
-  pub within : len ≤ length room
+-- there is room for one pair of each two objects, and the path has no more
+pub record IsPathRoom (n len room : ℕ) : Type 0 where
+  pub whole : pair_count n ≤ room
+  pub within : len ≤ pair_count n

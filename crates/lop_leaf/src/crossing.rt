@@ -1,12 +1,16 @@
-//! A record may move to another thread and be shared by threads.
-use crate::LeafRecord;
+//! Tickets, results and records may move to another thread, and may be shared by threads.
+use crate::{Evaluated, LeafRecord, Ticket};
 
 fn shared<X: Sync>(_value: &X) {}
 
 fn sent<X: Send>(_value: &X) {}
 
 // It compiles to nothing: the check proves the bounds.
-fn crosses(rec: &LeafRecord) {
-    shared(rec);
-    sent(rec);
+fn crosses(ticket: &Ticket, found: &Evaluated, record: &LeafRecord) {
+    shared(ticket);
+    shared(found);
+    shared(record);
+    sent(ticket);
+    sent(found);
+    sent(record);
 }

@@ -10,7 +10,7 @@ use Rattle.lop_words.specs.declared.command.Format.{Format}
 use Rattle.lop_words.specs.declared.command.WordsFault.{WordsFault}
 use Rattle.lop_words.specs.Word.{is_name_word, format_of, is_plain, is_budget, is_seed, is_size}
 use Rattle.lop_words.specs.Options.{value_of, are_options, budget_of, certificate_of}
-use Rattle.lop_words.specs.Command.{command_of, gen_command, formatted_command, verb_command, solve_command, solve_with, check_command, value_command, IsWithinLimits}
+use Rattle.lop_words.specs.Command.{command_of, gen_command, solve_options, formatted_command, verb_command, solve_command, solve_with, check_command, value_command, IsWithinLimits}
 
 -- a certificate, if there is one, has another name than the file
 abbrev IsApart : List ℕ → Option (List ℕ) → Type 0
@@ -20,9 +20,7 @@ IsApart file (Some name) = bytes_eq name file ≡ false
 -- the numbers are within their limits, and the certificate has another name than the file
 abbrev IsSound : Command → Type 0
 IsSound (Solve format file nodes cert) = IsWithinLimits (Solve format file nodes cert) × IsApart file cert
-IsSound (Check format file cert) = Unit {0}
-IsSound (Value format file order_file) = Unit {0}
-IsSound (Gen seed n) = IsWithinLimits (Gen seed n)
+IsSound other = IsWithinLimits other
 
 -- a plain number that passes both tests lies between them
 between : (plain : Bool) (low high n : ℕ) → (plain && nat_le low n && nat_le n high) ≡ true → (low ≤ n) × (n ≤ high)
@@ -76,7 +74,7 @@ module _ (command : Command) where
 
   solve_sound : (format : Format) (file : List ℕ) (words : List (List ℕ)) → solve_command format file words ≡ Some command → IsSound command
   solve_sound format file words is =
-      where_true (are_options words) _ (λ with. with_sound format file (value_of (codes "--nodes") words) (value_of (codes "--cert") words) _ _ refl refl with) is
+      where_true (are_options solve_options words) _ (λ with. with_sound format file (value_of (codes "--nodes") words) (value_of (codes "--cert") words) _ _ refl refl with) is
 
   check_sound : (format : Format) (file : List ℕ) (words : List (List ℕ)) → check_command format file words ≡ Some command → IsSound command
   check_sound format file [] is = absurd cc
@@ -120,9 +118,7 @@ names_apart words kind f n k is = (command_sound (Solve kind f k (Some n)) words
 -- a sound command is within its limits
 within_limits : (command : Command) → IsSound command → IsWithinLimits command
 within_limits (Solve format file nodes cert) sound = sound.0
-within_limits (Check format file cert) sound = tt
-within_limits (Value format file order_file) sound = tt
-within_limits (Gen seed n) sound = sound
+within_limits other sound = sound
 
 -- the numbers of a command are within their limits
 pub limits : (words : List (List ℕ)) (command : Command) → command_of words ≡ Some command → IsWithinLimits command

@@ -14,10 +14,14 @@ solve_with format file (Some nodes) (Some cert) = Some (Solve format file nodes 
 solve_with format file (Some nodes) None = None
 solve_with format file None cert = None
 
--- behind FILE stand the options of `solve`, in any order
+-- the options that `solve` takes
+abbrev pub solve_options : List (List ℕ)
+solve_options = codes "--nodes" ∷ codes "--cert" ∷ []
+
+-- behind FILE stand options of `solve`, in any order
 abbrev pub solve_command : Format → List ℕ → List (List ℕ) → Option Command
 solve_command format file words =
-    if are_options words then solve_with format file (budget_of (value_of (codes "--nodes") words)) (certificate_of file (value_of (codes "--cert") words)) else None
+    if are_options solve_options words then solve_with format file (budget_of (value_of (codes "--nodes") words)) (certificate_of file (value_of (codes "--cert") words)) else None
 
 -- behind FILE stands the certificate's name
 abbrev pub check_command : Format → List ℕ → List (List ℕ) → Option Command
@@ -57,6 +61,5 @@ command_of (verb ∷ first ∷ second ∷ words) = if bytes_eq verb (codes "gen"
 -- the budget of nodes, or the number of objects, is within its limits
 abbrev pub IsWithinLimits : Command → Type 0
 IsWithinLimits (Solve format file nodes cert) = (1 ≤ nodes) × (nodes ≤ 1000000)
-IsWithinLimits (Check format file cert) = ⊤
-IsWithinLimits (Value format file order_file) = ⊤
 IsWithinLimits (Gen seed n) = (1 ≤ n) × (n ≤ 512)
+IsWithinLimits other = ⊤

@@ -1,5 +1,6 @@
 -- The options behind FILE.
-use Rattle.std.specs.Prelude.{ℕ, Bool, true, false, ◌&&◌, ◌||◌, List, [], ◌∷◌, codes, Option, None, Some, is_none, if◌then◌else◌}
+use Rattle.std.specs.Prelude.{ℕ, Bool, true, false, ◌&&◌, List, [], ◌∷◌, codes, Option, None, Some, is_none, if◌then◌else◌}
+use Rattle.std.specs.List.{list_any}
 use Rattle.std.specs.Str.{bytes_eq}
 use Rattle.lop_desk.specs.Number.{digits_value}
 use Rattle.lop_words.specs.Word.{is_name_word, is_budget}
@@ -10,19 +11,19 @@ value_of name [] = None
 value_of name (option ∷ []) = None
 value_of name (option ∷ value ∷ words) = if bytes_eq option name then Some value else value_of name words
 
--- the name of an option
-abbrev pub is_option : List ℕ → Bool
-is_option word = bytes_eq word (codes "--nodes") || bytes_eq word (codes "--cert")
+-- one of these names
+abbrev pub is_option : List (List ℕ) → List ℕ → Bool
+is_option names word = list_any (λ name. bytes_eq name word) names
 
--- the name of an option, which doesn't stand in the words behind it
-abbrev pub is_new_option : List ℕ → List (List ℕ) → Bool
-is_new_option option words = is_option option && is_none (value_of option words)
+-- one of these names, which doesn't stand in the words behind it
+abbrev pub is_new_option : List (List ℕ) → List ℕ → List (List ℕ) → Bool
+is_new_option names option words = is_option names option && is_none (value_of option words)
 
--- the words are options, each with its value, and none stands twice
-abbrev pub are_options : List (List ℕ) → Bool
-are_options [] = true
-are_options (option ∷ []) = false
-are_options (option ∷ value ∷ words) = is_new_option option words && are_options words
+-- the words are options of these names, each with its value, and none stands twice
+abbrev pub are_options : List (List ℕ) → List (List ℕ) → Bool
+are_options names [] = true
+are_options names (option ∷ []) = false
+are_options names (option ∷ value ∷ words) = is_new_option names option words && are_options names words
 
 -- the budget of nodes, 10,000 where none is given
 abbrev pub budget_of : Option (List ℕ) → Option ℕ

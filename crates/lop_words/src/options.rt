@@ -1,4 +1,4 @@
-// The options of `solve`.
+// Options and their values.
 ghost use Rattle.std.specs.Prelude.{◌≡◌, Option, None, Some, map, option_map, IfOk, IfErr, MatchOption};
 ghost use Rattle.std.specs.String.{string_bytes};
 ghost use Rattle.lop_words.specs.Word.{is_budget};
@@ -15,13 +15,13 @@ const DEFAULT_NODES: u32 = 10_000;
 
 const MOST_NODES: u64 = 1_000_000;
 
-/// Whether the words are options, each with its value, and none stands twice.
-pub fn are_options(words: &[String]) -> bool
-    ensures { result ≡ are_options (map (λ s. string_bytes s) words.now) }
+/// Whether the words are options of these names, each with its value, and none stands twice.
+pub fn are_options(names: &[&str], words: &[String]) -> bool
+    ensures { result ≡ are_options (map (λ s. s.now) names.now) (map (λ s. string_bytes s) words.now) }
 {
     let mut rest = words;
     while let [option, _, others @ ..] = rest {
-        if !is_new_option(option.as_str(), others) {
+        if !is_new_option(names, option.as_str(), others) {
             return false;
         }
         rest = others;
@@ -29,17 +29,24 @@ pub fn are_options(words: &[String]) -> bool
     rest.is_empty()
 }
 
-// Whether the word is an option's name, which doesn't stand in the other words.
-fn is_new_option(option: &str, others: &[String]) -> bool
-    ensures { result ≡ is_new_option option.now (map (λ s. string_bytes s) others.now) }
+// Whether the word is one of these names, which doesn't stand in the other words.
+fn is_new_option(names: &[&str], option: &str, others: &[String]) -> bool
+    ensures { result ≡ is_new_option (map (λ s. s.now) names.now) option.now (map (λ s. string_bytes s) others.now) }
 {
-    is_option(option) && value_of(option, others).is_none()
+    is_option(names, option) && value_of(option, others).is_none()
 }
 
-fn is_option(word: &str) -> bool
-    ensures { result ≡ is_option word.now }
+fn is_option(names: &[&str], word: &str) -> bool
+    ensures { result ≡ is_option (map (λ s. s.now) names.now) word.now }
 {
-    word == "--nodes" || word == "--cert"
+    let mut rest = names;
+    while let [name, others @ ..] = rest {
+        if *name == word {
+            return true;
+        }
+        rest = others;
+    }
+    false
 }
 
 /// The value of the option of this name, in words that are options and their values in turn.

@@ -15,6 +15,9 @@ use std::alloc::Global;
 // The greatest number of objects.
 const MOST_OBJECTS: u64 = 512;
 
+// The options that `solve` takes.
+const SOLVE_OPTIONS: [&str; 2] = ["--nodes", "--cert"];
+
 /// The command that the words after the program's name spell, in words of its own. O(bytes of the words).
 pub fn read_words(alloc: Global, words: &[String]) -> Result<Command, WordsFault>
     ensures command { IfOk result (λ command. command_of (map (λ s. string_bytes s) words.now) ≡ Some command) }
@@ -101,7 +104,7 @@ fn solve_words(
     ensures command { IfOk result (λ command. solve_command format file (map (λ s. string_bytes s) words.now) ≡ Some command) }
     ensures fault { IfErr result (IsWordsFault (solve_command format file (map (λ s. string_bytes s) words.now))) }
 {
-    if !are_options(words) {
+    if !are_options(&SOLVE_OPTIONS, words) {
         return Err(WordsFault::Usage);
     }
     let Some(nodes) = budget(value_of("--nodes", words)) else {

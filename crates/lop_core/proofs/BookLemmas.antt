@@ -3,7 +3,7 @@ use Rattle.std.proofs.Common.{◌≡◌, ◌≢◌, ℕ, ◌+◌, ◌*◌, ◌/�
 use Rattle.std.specs.Prelude.{ℤ, pos, ◌-ℤ◌, ◌*ℤ◌, ◌+ℤ◌, IfSome, IfNone, if◌then◌else◌, filter, count_by, All, IsPermutation}
 use Rattle.std.specs.Int.{int_max}
 use Rattle.std.proofs.lemmas.Bool.Decides.{nat_tests}
-use Rattle.std.proofs.lemmas.List.{length-map, get_or-set_other, get_or_append_left}
+use Rattle.std.proofs.lemmas.List.{length-map, length_push, get_or-set_other, get_or_append_left}
 use Rattle.std.proofs.lemmas.List.Elements.{All-map, All-filter, All-append}
 use Rattle.std.proofs.lemmas.List.Sums.{length-filter, count_by-le-length, sum_by_push}
 use Rattle.std.proofs.lemmas.List.Sorted.{sum_by-IsPermutation}
@@ -20,7 +20,7 @@ use Rattle.lop_leaf.specs.Record.{ScaledTerms, no_terms, HasCutsBelow, FitTerms}
 use Rattle.lop_leaf.specs.Bound.{CertifiesUnder}
 use Rattle.lop_core.specs.declared.node.SearchNode.{SearchNode}
 use Rattle.lop_core.specs.declared.records.NumberedTerm.{NumberedTerm}
-use Rattle.lop_core.specs.Records.{NodeRecord, RecordBook, empty_record, cut_at, record_at, terms_of, scaled_of, is_new, new_cuts, finds_room, term_room, IsNodeRecord, IsRecordBook, IsTakenIn, IsTakenOrKept, with_children}
+use Rattle.lop_core.specs.Records.{NodeRecord, RecordBook, empty_record, cut_at, record_at, terms_of, scaled_of, is_new, new_cuts, finds_room, term_room, IsNodeRecord, IsRecordBook, IsNumbered, IsAdded, IsTakenAs, IsTakenOrKept, is_own, with_children}
 use Rattle.lop_core.specs.declared.node.Standing.TheVariants.{Out}
 use Rattle.lop_core.specs.declared.journal.Entry.{Entry}
 use Rattle.lop_core.specs.declared.journal.Entry.TheVariants.{Take, Report}
@@ -37,8 +37,9 @@ use Rattle.lop_core.proofs.RecordLemmas.{terms_of-longer}
 -- ---- when a record finds room
 
 -- a record without terms finds room
-pub without_terms_found : (room : ℕ) (book : RecordBook) (shown : ScaledTerms) → shown ≡ no_terms → finds_room room book shown.terms ≡ true
-without_terms_found room book shown e = ap (λ (r : ScaledTerms). finds_room room book r.terms) e
+pub without_terms_found : (own : Bool) (room : ℕ) (book : RecordBook) (shown : ScaledTerms) → shown ≡ no_terms → (own || finds_room room book shown.terms) ≡ true
+without_terms_found true room book shown e = refl
+without_terms_found false room book shown e = ap (λ (r : ScaledTerms). finds_room room book r.terms) e
 
 -- the terms bring no more new cuts than there are terms
 pub new_count-le-terms : (cuts : List CutKind) (terms : List Term) → length (new_cuts cuts terms) ≤ length terms
@@ -65,9 +66,10 @@ refused_by budget used k m nc rooms false true false ep eq er e hu hm hk hn =
     above x y h = grind (arith, nat_tests)
 
 -- a record is refused only after so many that found room
-pub refused_late : (budget : ℕ) (book : RecordBook) (terms : List Term) (rooms : ℕ) → finds_room (term_room budget) book terms ≡ false → book.used ≤ 4096 * rooms → length book.cuts ≤ 4096 * rooms → length terms ≤ 4096
+pub refused_late : (own : Bool) (budget : ℕ) (book : RecordBook) (terms : List Term) (rooms : ℕ) → (own || finds_room (term_room budget) book terms) ≡ false → book.used ≤ 4096 * rooms → length book.cuts ≤ 4096 * rooms → length terms ≤ 4096
     → sure_rooms budget ≤ rooms
-refused_late budget book terms rooms e used cuts few =
+refused_late true budget book terms rooms e used cuts few = absurd cc
+refused_late false budget book terms rooms e used cuts few =
     refused_by budget book.used (length terms) (length book.cuts) (length (new_cuts book.cuts terms)) rooms (eqb (length terms) 0) (leb (book.used + length terms) (4096 + min (1024 * budget) 67108864))
     (leb (length book.cuts + length (new_cuts book.cuts terms)) 65536) refl refl refl e used cuts few (new_count-le-terms book.cuts terms)
 
@@ -121,6 +123,7 @@ pub record TakenFacts (view : CoreFields) (node : ℕ) (kept : ℤ) (rooms : ℕ
   pub fit : All (FitsCut view.problem.weights.size) mid.cuts
   pub terms : mid.used ≤ 4096 * rooms
   pub cuts : length mid.cuts ≤ 4096 * rooms
+  pub kept_count : length mid.kept ≤ length view.book.kept + 1
 
 module _ (view : CoreFields) (rec : AreRecorded view) (book : IsRecordBook view.book) (node : ℕ) (inside : node < length view.state.nodes) (found : EvaluatedFields) (rooms : ℕ) (mid : RecordBook) where
   facts_refused : rooms ≡ room_count view.journal → mid ≡ view.book → TakenFacts view node (node_at view.state.nodes node).bound rooms mid
@@ -131,11 +134,25 @@ module _ (view : CoreFields) (rec : AreRecorded view) (book : IsRecordBook view.
     fit = rec.fit;
     terms = rec.terms;
     cuts = rec.cuts;
+    kept_count = omega arith;
   })
 
-  facts_taken : rooms ≡ room_count view.journal + 1 → IsTakenIn view.book node found.shown mid → length found.shown.terms ≤ 4096 → FitTerms view.problem.weights.size found.shown.terms
+  -- the node has the record already
+  facts_same : rooms ≡ room_count view.journal + 1 → IsNumbered view.book.cuts found.shown (record_at view.book.records node) → mid ≡ view.book
       → CertifiesUnder view.problem.weights (path_of view.state.nodes node) found.shown found.bound → TakenFacts view node found.bound rooms mid
-  facts_taken er taken few fit certified =
+  facts_same er own e certified = rw e (record {
+    same_length = rec.same_length;
+    others = λ i lt ne. refl;
+    own = CertifiesUnder-permuted view.problem.weights (path_of view.state.nodes node) found.shown (scaled_of view.book.cuts (record_at view.book.records node)) found.bound own.scale own.terms certified;
+    fit = rec.fit;
+    terms = omega (arith, rec.terms);
+    cuts = omega (arith, rec.cuts);
+    kept_count = omega arith;
+  })
+
+  facts_added : rooms ≡ room_count view.journal + 1 → IsAdded view.book node found.shown mid → length found.shown.terms ≤ 4096 → FitTerms view.problem.weights.size found.shown.terms
+      → CertifiesUnder view.problem.weights (path_of view.state.nodes node) found.shown found.bound → TakenFacts view node found.bound rooms mid
+  facts_added er taken few fit certified =
       let more = new_count-le-terms view.book.cuts found.shown.terms in
       let long : length mid.cuts ≡ length view.book.cuts + length (new_cuts view.book.cuts found.shown.terms) = ap length taken.cuts ∙ length-append view.book.cuts (new_cuts view.book.cuts found.shown.terms) in
       record {
@@ -155,12 +172,18 @@ module _ (view : CoreFields) (rec : AreRecorded view) (book : IsRecordBook view.
             (All-filter (λ (t : Term). is_new view.book.cuts t.cut) (λ (t : Term). FitsCut view.problem.weights.size t.cut) found.shown.terms fit)));
         terms = omega (arith, taken.used, rec.terms);
         cuts = omega (arith, more, rec.cuts);
+        kept_count = omega (arith, ap length taken.kept ∙ length_push view.book.kept (record_at mid.records node));
       }
+
+  facts_taken : (own : Bool) → rooms ≡ room_count view.journal + 1 → IsTakenAs own view.book node found.shown mid → length found.shown.terms ≤ 4096 → FitTerms view.problem.weights.size found.shown.terms
+      → CertifiesUnder view.problem.weights (path_of view.state.nodes node) found.shown found.bound → TakenFacts view node found.bound rooms mid
+  facts_taken true er taken few fit certified = facts_same er taken.0 taken.1 certified
+  facts_taken false er taken few fit certified = facts_added er taken few fit certified
 
   -- both at once
   pub facts_of : (room : Bool) → rooms ≡ room_count view.journal + (if room then 1 else 0) → IsTakenOrKept room view.book node found.shown mid → length found.shown.terms ≤ 4096 → FitTerms view.problem.weights.size found.shown.terms
       → CertifiesUnder view.problem.weights (path_of view.state.nodes node) found.shown found.bound → TakenFacts view node (if room then found.bound else (node_at view.state.nodes node).bound) rooms mid
-  facts_of true er taken few fit certified = facts_taken er taken few fit certified
+  facts_of true er taken few fit certified = facts_taken (is_own view.book node found.shown) er taken few fit certified
   facts_of false er taken few fit certified = facts_refused (omega (arith, er)) taken
 
 -- the book of the children: those of a split node have its record
@@ -184,6 +207,7 @@ record GrownFacts (view : CoreFields) (node : ℕ) (kept : ℤ) (rooms : ℕ) (n
   fit : All (FitsCut view.problem.weights.size) book.cuts
   terms : book.used ≤ 4096 * rooms
   cuts : length book.cuts ≤ 4096 * rooms
+  kept_count : length book.kept ≤ length view.book.kept + 1
 
 grown_facts : (view : CoreFields) (node : ℕ) (kept : ℤ) (rooms : ℕ) (mid book : RecordBook) (split : Option ℕ) (nodes : List SearchNode) → TakenFacts view node kept rooms mid → node < length view.state.nodes
     → GrownBook view.state.nodes mid node split nodes book → GrownFacts view node kept rooms nodes book
@@ -195,6 +219,7 @@ grown_facts view node kept rooms mid book None nodes facts inside grown = rw gro
   fit = facts.fit;
   terms = facts.terms;
   cuts = facts.cuts;
+  kept_count = facts.kept_count;
 })
 grown_facts view node kept rooms mid book (Some first) nodes facts inside grown =
     let r : NodeRecord = record_at mid.records node in
@@ -214,6 +239,7 @@ grown_facts view node kept rooms mid book (Some first) nodes facts inside grown 
       fit = facts.fit;
       terms = facts.terms;
       cuts = facts.cuts;
+      kept_count = facts.kept_count;
     })
   where
     get_or_at : (xs : List NodeRecord) (x : NodeRecord) (ys : List NodeRecord) (d : NodeRecord) → get_or (xs ++ x ∷ ys) (length xs) d ≡ x
@@ -227,8 +253,9 @@ grown_facts view node kept rooms mid book (Some first) nodes facts inside grown 
 pub report_recorded : (view : CoreFields) (node : ℕ) (kept best : ℤ) (rooms : ℕ) (mid book : RecordBook) (split : Option ℕ) (p : Option Pair) (nodes : List SearchNode) (new : CoreFields)
     → AreRecorded view → TakenFacts view node kept rooms mid → node < length view.state.nodes → IsBranchingPath view.problem.weights.size (path_of view.state.nodes node)
     → IfSome p (λ q. IsUndecided view.problem.weights.size (path_of view.state.nodes node) q.before q.after) → nodes ≡ settled_nodes view.state.nodes node kept best p → GrownBook view.state.nodes mid node split nodes book
-    → new.problem.weights ≡ view.problem.weights → new.state.nodes ≡ nodes → new.book ≡ book → room_count new.journal ≡ rooms → AreRecorded new
-report_recorded view node kept best rooms mid book split p nodes new rec facts inside branching undecided settled grown ew en eb er =
+    → new.problem.weights ≡ view.problem.weights → new.state.nodes ≡ nodes → new.book ≡ book → room_count new.journal ≡ rooms
+    → new.state.evaluated ≡ view.state.evaluated + 1 → AreRecorded new
+report_recorded view node kept best rooms mid book split p nodes new rec facts inside branching undecided settled grown ew en eb er ee =
     let g = grown_facts view node kept rooms mid book split nodes facts inside grown in
     let certified : AreCertified view.problem.weights book (settled_nodes view.state.nodes node kept best p) =
     certified_settled view.problem.weights (λ i. scaled_of book.cuts (record_at book.records i)) view.state.nodes node kept best
@@ -240,12 +267,13 @@ report_recorded view node kept best rooms mid book split p nodes new rec facts i
       fit = rw (ew, eb) g.fit;
       terms = rw (eb, er) g.terms;
       cuts = rw (eb, er) g.cuts;
+      kept = rw eb (omega (arith, g.kept_count, rec.kept, ee));
     }
 
 -- the laws of the records after a take
 pub take_recorded : (view new : CoreFields) (w i : ℕ) → AreRecorded view → i < length view.state.nodes → new.problem.weights ≡ view.problem.weights → new.state.nodes ≡ changed view.state.nodes i (node_at view.state.nodes i).bound (Out w)
-    → new.book ≡ view.book → new.journal ≡ view.journal ++ Take w i ∷ [] → AreRecorded new
-take_recorded view new w i rec inside ew en eb ej =
+    → new.book ≡ view.book → new.journal ≡ view.journal ++ Take w i ∷ [] → new.state.evaluated ≡ view.state.evaluated → AreRecorded new
+take_recorded view new w i rec inside ew en eb ej ee =
     let rooms : room_count new.journal ≡ room_count view.journal + 0 = ap room_count ej ∙ sum_by_push (λ (e : Entry). cond (has_room e) 1 0) view.journal (Take w i) in
     let certified : AreCertified view.problem.weights view.book (changed view.state.nodes i (node_at view.state.nodes i).bound (Out w)) =
     certified_changed view.problem.weights (λ j. scaled_of view.book.cuts (record_at view.book.records j)) view.state.nodes i (node_at view.state.nodes i).bound (Out w) (λ j lt ne. rec.certified j lt) inside (rec.certified i inside) in
@@ -255,6 +283,7 @@ take_recorded view new w i rec inside ew en eb ej =
       fit = rw (ew, eb) rec.fit;
       terms = rw eb (omega (arith, rec.terms));
       cuts = rw eb (omega (arith, rec.cuts));
+      kept = rw eb (omega (arith, rec.kept, ee));
     }
 
 -- how many reports found room, with one more

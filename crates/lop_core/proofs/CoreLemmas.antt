@@ -1,5 +1,5 @@
 -- A core keeps its history over a take and a report, and it has room for the entry and the nodes.
-use Rattle.std.proofs.Common.{◌≡◌, ℕ, ◌+◌, ◌*◌, ◌<◌, ◌≤◌, List, [], ◌∷◌, ◌++◌, length, get_or, set, arith, sym, ◌∙◌, Some, None, Option, refl, ap, subst, Bool, true, false, IsPermutation}
+use Rattle.std.proofs.Common.{◌≡◌, ℕ, ◌+◌, ◌*◌, ◌<◌, ◌≤◌, List, [], ◌∷◌, ◌++◌, length, get_or, set, arith, sym, ◌∙◌, Some, None, Option, refl, ap, subst, Bool, true, false, ◌||◌, IsPermutation}
 use Rattle.std.proofs.lemmas.List.{get_or_read, get_or_default, length_push}
 use Rattle.std.proofs.lemmas.Option.{slice_get_read, get_or_from_slice_get, slice_get_within}
 use Rattle.std.specs.Prelude.{slice_get, ℤ, pos, ◌≤ℤ◌, fold, int_lt, IfSome, IfNone, if◌then◌else◌, ◌↔◌}
@@ -10,7 +10,7 @@ use Rattle.lop_model.specs.Order.{IsOrder}
 use Rattle.lop_model.specs.Matrix.{Matrix, weight}
 use Rattle.lop_model.specs.Fixings.{IsClosure, IsUndecided, IsBranchingPath, AreAllDecided}
 use Rattle.lop_model.specs.Bound.{pair_bound}
-use Rattle.lop_core.specs.Records.{RecordBook, IsRecordBook, record_at, scaled_of, finds_room, term_room, IsTakenOrKept}
+use Rattle.lop_core.specs.Records.{RecordBook, IsRecordBook, record_at, scaled_of, finds_room, is_own, term_room, IsTakenOrKept}
 use Rattle.lop_leaf.specs.Record.{ScaledTerms, IsScaledTerms}
 use Rattle.lop_leaf.specs.Ticket.{TicketFields, pair_count}
 use Rattle.lop_leaf.specs.Bound.{CertifiesUnder}
@@ -122,7 +122,7 @@ reported_packed : (core : CoreFields) (found : EvaluatedFields) → IsSoundRepor
 reported_packed core found r G c = r.sound.packed G (subst (λ (p : List Pair). IsClosure p G) (sym r.is_of.path) c)
 
 decided_room : (core : CoreFields) (found : EvaluatedFields) (pair : Option Pair) (t : TicketFields) → IfNone pair (IsDecidedResult core.problem.weights t found) → IfNone pair (has_room_for core found ≡ true)
-decided_room core found None t d = without_terms_found (term_room core.problem.budget) core.book found.shown d.shown
+decided_room core found None t d = without_terms_found (is_own core.book found.node found.shown) (term_room core.problem.budget) core.book found.shown d.shown
 decided_room core found (Some p) t d = tt
 
 decided_value : (core : CoreFields) (found : EvaluatedFields) (path : List Pair) (pair : Option Pair) (t : TicketFields) → t.path ≡ path → IfNone pair (IsDecidedResult core.problem.weights t found)
@@ -151,7 +151,7 @@ may_report core w found h kept few out r =
       undecided = reported_undecided core found r;
       all_decided = decided_value core found (path_of core.state.nodes found.node) found.pair r.ticket r.is_of.path r.sound.all_decided;
       decided_room = decided_room core found found.pair r.ticket r.sound.all_decided;
-      refused = λ e. refused_late core.problem.budget core.book found.shown.terms (room_count core.journal) e kept.terms kept.cuts few.bounded_count;
+      refused = λ e. refused_late (is_own core.book found.node found.shown) core.problem.budget core.book found.shown.terms (room_count core.journal) e kept.terms kept.cuts few.bounded_count;
     }
 
 -- the bound that a node has after a report
@@ -268,8 +268,12 @@ kept_is view found room b k n seen er eb ek en is lt =
     ∙ ap (λ (m : SearchNode). if has_room_for view found then found.bound else m.bound) (at ∙ ap (node_at view.state.nodes) en)
 
 -- the answer on the room that the code passes on
-pub room_is : (view : CoreFields) (found : EvaluatedFields) (room : Bool) (places : ℕ) (shown : ScaledTerms) → room ≡ finds_room places view.book shown.terms → places ≡ term_room view.problem.budget → shown ≡ found.shown → room ≡ has_room_for view found
-room_is view found room places shown e ep es = e ∙ ap (λ k. finds_room k view.book shown.terms) ep ∙ ap (λ (r : ScaledTerms). finds_room (term_room view.problem.budget) view.book r.terms) es
+pub room_is : (view : CoreFields) (found : EvaluatedFields) (room : Bool) (places n : ℕ) (shown : ScaledTerms) → room ≡ (is_own view.book n shown || finds_room places view.book shown.terms) → places ≡ term_room view.problem.budget
+    → n ≡ found.node → shown ≡ found.shown → room ≡ has_room_for view found
+room_is view found room places n shown e ep en es =
+    e ∙ ap (λ k. is_own view.book n shown || finds_room k view.book shown.terms) ep
+    ∙ ap (λ k. is_own view.book k shown || finds_room (term_room view.problem.budget) view.book shown.terms) en
+    ∙ ap (λ (r : ScaledTerms). is_own view.book found.node r || finds_room (term_room view.problem.budget) view.book r.terms) es
 
 -- what was taken in, by the node and the record of the result
 pub taken_is : (old mid : RecordBook) (room room' : Bool) (node node' : ℕ) (shown shown' : ScaledTerms) → room ≡ room' → node ≡ node' → shown ≡ shown' → IsTakenOrKept room old node shown mid → IsTakenOrKept room' old node' shown' mid
@@ -288,12 +292,13 @@ if_some (Some x) p = p
 -- the laws of the records after a report
 pub report_laws : (view new : CoreFields) (w : ℕ) (found : EvaluatedFields) (best : ℤ) (mid : RecordBook) (split : Option ℕ) (nodes : List SearchNode) → HasHistory view → AreRecorded view → IsRecordBook view.book → IsOutTo view.state w found.node
     → IsSoundReport view found → IsScaledTerms found.shown → IsTakenOrKept (has_room_for view found) view.book found.node found.shown mid → nodes ≡ settled_nodes view.state.nodes found.node (kept_bound view found) best found.pair
-    → GrownBook view.state.nodes mid found.node split nodes new.book → new.problem.weights ≡ view.problem.weights → new.state.nodes ≡ nodes → new.journal ≡ view.journal ++ entry_of view w found ∷ [] → AreRecorded new
-report_laws view new w found best mid split nodes h rec book out sound few taken settled grown ew en ej =
+    → GrownBook view.state.nodes mid found.node split nodes new.book → new.problem.weights ≡ view.problem.weights → new.state.nodes ≡ nodes → new.journal ≡ view.journal ++ entry_of view w found ∷ []
+    → new.state.evaluated ≡ view.state.evaluated + 1 → AreRecorded new
+report_laws view new w found best mid split nodes h rec book out sound few taken settled grown ew en ej ee =
     let inside : found.node < length view.state.nodes = slice_get_within view.state.nodes found.node out.0 out.1 in
     report_recorded view found.node (kept_bound view found) best (room_count view.journal + (if has_room_for view found then 1 else 0)) mid new.book split found.pair nodes new rec
     (report_facts view found mid h rec book inside sound few taken) inside (core_branching view h found.node inside) (reported_undecided view found sound) settled grown ew en refl
-    (rooms_after view.journal new.journal w found.node found.bound found.pair found.value (has_room_for view found) ej)
+    (rooms_after view.journal new.journal w found.node found.bound found.pair found.value (has_room_for view found) ej) ee
 
 module _ (view : CoreFields) (w : ℕ) (found : EvaluatedFields) (nodes : List SearchNode) (best : ℤ) (journal : List Entry) (order : List ℕ) (leaves : Leaves view w found nodes best journal order) where
   left_order : order ≡ better_of view found
@@ -349,7 +354,7 @@ pub made : (C C0 : Matrix) (budget : ℕ) (start : ℤ) (nodes : List SearchNode
 made C C0 budget start nodes journal order order0 book eC es o en ej eo ek =
     rw (en, ej, eo, eC, ek) (
       prepared_true (record { weights = C0; start = start; budget = budget }) order0 o (sym es),
-      record { same_length = refl; certified = certified_root C0; fit = λ k d lt. absurd (omega arith); terms = omega arith; cuts = omega arith },
+      record { same_length = refl; certified = certified_root C0; fit = λ k d lt. absurd (omega arith); terms = omega arith; cuts = omega arith; kept = omega arith },
       refl,
     )
 

@@ -1,6 +1,7 @@
 pub mod Lists
 pub mod CutIndexLemmas
 pub mod RecordLemmas
+pub mod SameRecords
 pub mod ExtensionLemmas
 pub mod TreeLemmas
 pub mod Sound

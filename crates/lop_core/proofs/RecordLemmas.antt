@@ -1,13 +1,13 @@
 -- Records by the numbers of their cuts: what a new record leaves of the list of cuts and of the other records.
 use Rattle.std.proofs.Common.{◌≡◌, ◌≢◌, ℕ, ◌+◌, ◌-◌, ◌<◌, ◌≤◌, List, [], ◌∷◌, ◌++◌, length, get_or, set, take, drop, arith, sym, ◌∙◌, refl, ap, subst, Bool, true, false, not, ◌||◌, ◌&&◌, leb, map, eqb, append_assoc, append-nil}
-use Rattle.std.specs.Prelude.{if◌then◌else◌, filter, count_by, All, AllPairs, IsPermutation}
-use Rattle.std.specs.List.{list_any, IsDistinct}
+use Rattle.std.specs.Prelude.{if◌then◌else◌, filter, count_by, sum, All, AllPairs, IsPermutation}
+use Rattle.std.specs.List.{list_any, sum_by, IsDistinct}
 use Rattle.std.specs.List.Sorted.{IsNonDecreasingBy}
 use Rattle.std.proofs.lemmas.Bool.Decides.{nat_tests}
 use Rattle.std.proofs.lemmas.List.{length_push, get_or_append_left, get_or_default, get_or-map, get_or-take, map-append, map-set, length-map, length-append, take_all, take_more, drop_at, take-append-le, drop-append-le, length-drop, length-take-le, get_or-set_same}
 use Rattle.std.proofs.lemmas.List.Elements.{All-head, All-tail, All-map, All-filter, All-push, All-weaker, All-set, filter_more}
 use Rattle.std.proofs.lemmas.List.Folds.{list_any-append, list_any_none}
-use Rattle.std.proofs.lemmas.List.Sums.{length-filter, sum_by-take-le}
+use Rattle.std.proofs.lemmas.List.Sums.{length-filter, sum_by-take-le, sum_by_push, sum-map}
 use Rattle.std.proofs.lemmas.List.Sorted.{length_permutation, IsPermutation-map, All-permutation}
 use Rattle.std.proofs.lemmas.Map.Keys.{IsDistinct-from_apart, apart_from_distinct, IsDistinct-IsPermutation}
 use Rattle.lop_cuts.specs.declared.kind.CutKind.{CutKind}
@@ -16,7 +16,7 @@ use Rattle.lop_cuts.specs.Lagrangian.{Term}
 use Rattle.lop_leaf.specs.Record.{ScaledTerms, IsScaledTerms, IsMultiplier}
 use Rattle.lop_core.specs.declared.records.NumberedTerm.{NumberedTerm}
 use Rattle.lop_core.specs.declared.records.Span.{Span}
-use Rattle.lop_core.specs.Records.{NodeRecord, AreDifferentCuts, IsRecordBook, IsNumbered, IsTakenIn, empty_record, record_at, cut_at, terms_of, same_cut, is_new, new_cuts, IsNodeRecord}
+use Rattle.lop_core.specs.Records.{NodeRecord, RecordBook, AreDifferentCuts, IsRecordBook, IsNumbered, IsAdded, with_children, empty_record, record_at, number_at, cut_at, terms_of, same_cut, is_new, new_cuts, IsNodeRecord}
 use Rattle.lop_core.specs.CutIndex.{IsNumberOf}
 use Rattle.lop_core.specs.Kept.{record_of}
 use Rattle.lop_core.proofs.CutIndexLemmas.{same_cut-Decides}
@@ -209,37 +209,91 @@ IsNodeRecord-longer n m r le is = record {
 pub read_term : (terms : List Term) (i : ℕ) (t seen : Term) → t ≡ seen → seen ≡ get_or terms i seen → i < length terms → t ≡ get_or terms i t
 read_term terms i t seen e is within = e ∙ is ∙ get_or_default terms i seen t within
 
--- two more spans like one that is there
-pub inherited_kept : (cuts : List CutKind) (room : List NumberedTerm) (spans : List Span) (node : ℕ) (span : Span) (one two : List Span)
-    → IsRecordBook (record { cuts = cuts; used = length room; records = map (record_of room) spans }) → All (λ s. s.first + s.count ≤ length room) spans → node < length spans → span ≡ get_or spans node span
-    → one ≡ spans ++ span ∷ [] → two ≡ one ++ span ∷ [] → IsRecordBook (record { cuts = cuts; used = length room; records = map (record_of room) two }) × All (λ s. s.first + s.count ≤ length room) two
-inherited_kept cuts room spans node span one two book inside within is e1 e2 =
-    let each = all_unmapped (IsNodeRecord (length cuts)) (record_of room) spans book.each in
-    let own : IsNodeRecord (length cuts) (record_of room span) = subst (λ (s : Span). IsNodeRecord (length cuts) (record_of room s)) (sym is) (each node span within) in
-    let own_inside : span.first + span.count ≤ length room = subst (λ (s : Span). s.first + s.count ≤ length room) (sym is) (inside node span within) in
-    let all = All-push (λ (s : Span). IsNodeRecord (length cuts) (record_of room s)) (spans ++ span ∷ []) span (All-push (λ (s : Span). IsNodeRecord (length cuts) (record_of room s)) spans span each own) own in
-    let all_inside = All-push (λ (s : Span). s.first + s.count ≤ length room) (spans ++ span ∷ []) span (All-push (λ (s : Span). s.first + s.count ≤ length room) spans span inside own_inside) own_inside in
-    let e : two ≡ (spans ++ span ∷ []) ++ span ∷ [] = e2 ∙ ap (λ (xs : List Span). xs ++ span ∷ []) e1 in (
-      rw e (record { cuts = book.cuts; each = All-map (IsNodeRecord (length cuts)) (record_of room) ((spans ++ span ∷ []) ++ span ∷ []) all }),
-      rw e all_inside,
-    )
+-- the records as they lie in their rooms
+abbrev pub laid : List CutKind → List NumberedTerm → List Span → List ℕ → RecordBook
+laid cuts room spans numbers = record {
+  cuts = cuts;
+  used = length room;
+  records = map (record_at (map (record_of room) spans)) numbers;
+  numbers = numbers;
+  kept = map (record_of room) spans;
+}
 
--- a record that was taken in: the book and the spans after it
-module _ (cuts more cuts' : List CutKind) (room fresh sorted : List NumberedTerm) (spans : List Span) (node : ℕ) (shown : ScaledTerms) (scale first count : ℕ)
-    (book : IsRecordBook (record { cuts = cuts; used = length room; records = map (record_of room) spans })) (inside : All (λ s. s.first + s.count ≤ length room) spans) (within : node < length spans)
+-- two more nodes with the number of one that is there
+pub inherited_kept : (cuts : List CutKind) (room : List NumberedTerm) (spans : List Span) (numbers : List ℕ) (node number : ℕ) (one two : List ℕ)
+    → IsRecordBook (laid cuts room spans numbers) → node < length numbers → number ≡ get_or numbers node number → one ≡ numbers ++ number ∷ [] → two ≡ one ++ number ∷ []
+    → IsRecordBook (laid cuts room spans two)
+inherited_kept cuts room spans numbers node number one two book within is e1 e2 =
+    let kept : List NodeRecord = map (record_of room) spans in
+    let own : number < length (map (record_of room) spans) = subst (λ (k : ℕ). k < length (map (record_of room) spans)) (sym is) (book.inside node number within) in
+    let all : All (λ (k : ℕ). k < length (map (record_of room) spans)) ((numbers ++ number ∷ []) ++ number ∷ []) =
+    All-push (λ (k : ℕ). k < length (map (record_of room) spans)) (numbers ++ number ∷ []) number (All-push (λ (k : ℕ). k < length (map (record_of room) spans)) numbers number book.inside own) own in
+    let e : two ≡ (numbers ++ number ∷ []) ++ number ∷ [] = e2 ∙ ap (λ (xs : List ℕ). xs ++ number ∷ []) e1 in
+    rw e (record {
+      cuts = book.cuts;
+      each = All-map (IsNodeRecord (length cuts)) (record_at (map (record_of room) spans)) ((numbers ++ number ∷ []) ++ number ∷ []) (λ k d lt. book.every _ empty_record (all k d lt));
+      every = book.every;
+      inside = all;
+      by_number = refl;
+      counted = book.counted;
+    })
+
+-- the book after it
+pub inherited_book : (cuts : List CutKind) (room : List NumberedTerm) (spans : List Span) (numbers : List ℕ) (node number : ℕ) (one two : List ℕ)
+    → node < length numbers → number ≡ get_or numbers node number → one ≡ numbers ++ number ∷ [] → two ≡ one ++ number ∷ []
+    → laid cuts room spans two ≡ with_children (laid cuts room spans numbers) node
+inherited_book cuts room spans numbers node number one two within is e1 e2 =
+    let look : ℕ → NodeRecord = record_at (map (record_of room) spans) in
+    let at : number ≡ number_at numbers node = is ∙ get_or_default numbers node number 0 within in
+    let e : two ≡ numbers ++ number_at numbers node ∷ number_at numbers node ∷ [] =
+    e2 ∙ ap (λ (xs : List ℕ). xs ++ number ∷ []) e1 ∙ append_assoc numbers (number ∷ []) (number ∷ []) ∙ ap (λ (k : ℕ). numbers ++ k ∷ k ∷ []) at in
+    let own : record_at (map look numbers) node ≡ look (number_at numbers node) = get_or-map look numbers node 0 empty_record within in
+    ap (laid cuts room spans) e
+    ∙ ap (λ (rs : List NodeRecord). record {
+      cuts = cuts;
+      used = length room;
+      records = rs;
+      numbers = numbers ++ number_at numbers node ∷ number_at numbers node ∷ [];
+      kept = map (record_of room) spans;
+    }) (map-append look numbers (number_at numbers node ∷ number_at numbers node ∷ []) ∙ ap (λ (r : NodeRecord). map look numbers ++ r ∷ r ∷ []) (sym own))
+
+-- a record that was added: the book and the spans after it
+module _ (cuts more cuts' : List CutKind) (room fresh sorted : List NumberedTerm) (spans : List Span) (numbers : List ℕ) (node : ℕ) (shown : ScaledTerms) (scale first count next : ℕ)
+    (book : IsRecordBook (laid cuts room spans numbers)) (inside : All (λ s. s.first + s.count ≤ length room) spans) (within : node < length numbers)
     (is : IsScaledTerms shown) (grows : cuts' ≡ cuts ++ more) (different : AreDifferentCuts cuts') (terms : terms_of cuts' fresh ≡ shown.terms) (listed : All (λ t. t.cut < length cuts') fresh)
-    (perm : IsPermutation fresh sorted) (up : IsNonDecreasingBy (λ (t : NumberedTerm). t.cut) sorted) (es : scale ≡ shown.scale) (ef : first ≡ length room) (ec : count ≡ length shown.terms) where
+    (perm : IsPermutation fresh sorted) (up : IsNonDecreasingBy (λ (t : NumberedTerm). t.cut) sorted) (es : scale ≡ shown.scale) (ef : first ≡ length room) (ec : count ≡ length shown.terms) (en : next ≡ length spans) where
   pub same_count : length sorted ≡ length shown.terms
   same_count = length_permutation fresh sorted perm ∙ sym (length-map fresh (λ (t : NumberedTerm). record { cut = cut_at cuts' t.cut; multiplier = t.multiplier })) ∙ ap length terms
 
   own_record : record_of (room ++ sorted) (record { scale = scale; first = first; count = count }) ≡ record { scale = shown.scale; terms = sorted }
   own_record = record_of-last room sorted scale first count ef (ec ∙ sym same_count) ∙ ap (λ (k : ℕ). record { scale = k; terms = sorted }) es
 
-  new_records : map (record_of (room ++ sorted)) (set spans node (record { scale = scale; first = first; count = count })) ≡ set (map (record_of room) spans) node (record { scale = shown.scale; terms = sorted })
+  -- the records by number
+  new_kept : map (record_of (room ++ sorted)) (spans ++ record { scale = scale; first = first; count = count } ∷ []) ≡ map (record_of room) spans ++ record { scale = shown.scale; terms = sorted } ∷ []
+  new_kept =
+      map-append (record_of (room ++ sorted)) spans (record { scale = scale; first = first; count = count } ∷ [])
+      ∙ ap (λ (r : NodeRecord). map (record_of (room ++ sorted)) spans ++ r ∷ []) own_record
+      ∙ ap (λ (rs : List NodeRecord). rs ++ record { scale = shown.scale; terms = sorted } ∷ []) (records-longer room sorted spans inside)
+
+  next_record : record_at (map (record_of room) spans ++ record { scale = shown.scale; terms = sorted } ∷ []) next ≡ record { scale = shown.scale; terms = sorted }
+  next_record =
+      ap (record_at (map (record_of room) spans ++ record { scale = shown.scale; terms = sorted } ∷ [])) (en ∙ sym (length-map spans (record_of room)))
+      ∙ last (map (record_of room) spans) (record { scale = shown.scale; terms = sorted })
+    where
+      last : (rs : List NodeRecord) (r : NodeRecord) → record_at (rs ++ r ∷ []) (length rs) ≡ r
+      last [] r = refl
+      last (s ∷ rs) r = last rs r
+
+  -- the records of the nodes
+  new_records : map (record_at (map (record_of (room ++ sorted)) (spans ++ record { scale = scale; first = first; count = count } ∷ []))) (set numbers node next)
+      ≡ set (map (record_at (map (record_of room) spans)) numbers) node (record { scale = shown.scale; terms = sorted })
   new_records =
-      map-set (record_of (room ++ sorted)) spans node (record { scale = scale; first = first; count = count })
-      ∙ ap (λ (r : NodeRecord). set (map (record_of (room ++ sorted)) spans) node r) own_record
-      ∙ ap (λ (rs : List NodeRecord). set rs node (record { scale = shown.scale; terms = sorted })) (records-longer room sorted spans inside)
+      ap (λ (rs : List NodeRecord). map (record_at rs) (set numbers node next)) new_kept
+      ∙ map-set (record_at (map (record_of room) spans ++ record { scale = shown.scale; terms = sorted } ∷ [])) numbers node next
+      ∙ ap (λ (r : NodeRecord). set (map (record_at (map (record_of room) spans ++ record { scale = shown.scale; terms = sorted } ∷ [])) numbers) node r) next_record
+      ∙ ap (λ (rs : List NodeRecord). set rs node (record { scale = shown.scale; terms = sorted }))
+      (map_agree (record_at (map (record_of room) spans ++ record { scale = shown.scale; terms = sorted } ∷ [])) (record_at (map (record_of room) spans)) numbers
+      (λ k d lt. get_or_append_left (map (record_of room) spans) (record { scale = shown.scale; terms = sorted } ∷ []) empty_record (get_or numbers k d) (book.inside k d lt)))
 
   rising : AllPairs (λ t u. t.cut < u.cut) sorted
   rising = rising_sorted cuts' fresh sorted (subst (λ (ts : List Term). AllPairs (λ t u. t.cut ≢ u.cut) ts) (sym terms) is.different) perm up
@@ -256,36 +310,60 @@ module _ (cuts more cuts' : List CutKind) (room fresh sorted : List NumberedTerm
         (subst (λ (ts : List Term). All (λ t. IsMultiplier t.multiplier) ts) (sym terms) is.multipliers));
   }
 
-  pub taken_book : IsRecordBook (record { cuts = cuts'; used = length (room ++ sorted); records = map (record_of (room ++ sorted)) (set spans node (record { scale = scale; first = first; count = count })) })
-  taken_book =
-      let long : length cuts' ≡ length cuts + length more = ap length grows ∙ length-append cuts more in
+  longer : (r : NodeRecord) → IsNodeRecord (length cuts) r → IsNodeRecord (length cuts') r
+  longer r h = let long : length cuts' ≡ length cuts + length more = ap length grows ∙ length-append cuts more in IsNodeRecord-longer (length cuts) (length cuts') r (omega arith) h
+
+  pub added_book : IsRecordBook (laid cuts' (room ++ sorted) (spans ++ record { scale = scale; first = first; count = count } ∷ []) (set numbers node next))
+  added_book =
+      let size : NodeRecord → ℕ = λ r. length r.terms in
+      let all : length (map (record_of (room ++ sorted)) (spans ++ record { scale = scale; first = first; count = count } ∷ [])) ≡ length (map (record_of room) spans) + 1 =
+      ap length new_kept ∙ length_push (map (record_of room) spans) (record { scale = shown.scale; terms = sorted }) in
+      let old : length (map (record_of room) spans) ≡ length spans = length-map spans (record_of room) in
+      let long : length (room ++ sorted) ≡ length room + length sorted = length-append room sorted in
+      let sums : sum (map (λ (r : NodeRecord). length r.terms) (map (record_of (room ++ sorted)) (spans ++ record { scale = scale; first = first; count = count } ∷ []))) ≡ sum (map (λ (r : NodeRecord). length r.terms) (map (record_of room) spans)) + length sorted =
+      ap (λ (rs : List NodeRecord). sum (map (λ (r : NodeRecord). length r.terms) rs)) new_kept ∙ sum_pushed (map (record_of room) spans) (record { scale = shown.scale; terms = sorted }) in
       record {
         cuts = different;
         each = subst (λ (rs : List NodeRecord). All (IsNodeRecord (length cuts')) rs) (sym new_records)
-            (All-set (IsNodeRecord (length cuts')) (map (record_of room) spans) node (record { scale = shown.scale; terms = sorted }) own_is
-            (All-weaker (IsNodeRecord (length cuts)) (IsNodeRecord (length cuts')) (λ r h. IsNodeRecord-longer (length cuts) (length cuts') r (omega arith) h) (map (record_of room) spans) book.each));
+            (All-set (IsNodeRecord (length cuts')) (map (record_at (map (record_of room) spans)) numbers) node (record { scale = shown.scale; terms = sorted }) own_is
+            (All-weaker (IsNodeRecord (length cuts)) (IsNodeRecord (length cuts')) longer (map (record_at (map (record_of room) spans)) numbers) book.each));
+        every = subst (λ (rs : List NodeRecord). All (IsNodeRecord (length cuts')) rs) (sym new_kept)
+            (All-push (IsNodeRecord (length cuts')) (map (record_of room) spans) (record { scale = shown.scale; terms = sorted })
+            (All-weaker (IsNodeRecord (length cuts)) (IsNodeRecord (length cuts')) longer (map (record_of room) spans) book.every) own_is);
+        inside = All-set (λ (k : ℕ). k < length (map (record_of (room ++ sorted)) (spans ++ record { scale = scale; first = first; count = count } ∷ []))) numbers node next (omega (arith, all, old))
+            (All-weaker (λ (k : ℕ). k < length (map (record_of room) spans)) (λ (k : ℕ). k < length (map (record_of (room ++ sorted)) (spans ++ record { scale = scale; first = first; count = count } ∷ []))) (λ k l. omega (arith, all, l)) numbers book.inside);
+        by_number = refl;
+        counted = omega (arith, sums, long, book.counted);
       }
+    where
+      sum_pushed : (rs : List NodeRecord) (r : NodeRecord) → sum (map (λ (s : NodeRecord). length s.terms) (rs ++ r ∷ [])) ≡ sum (map (λ (s : NodeRecord). length s.terms) rs) + length r.terms
+      sum_pushed rs r =
+          let a : sum (map (λ (s : NodeRecord). length s.terms) (rs ++ r ∷ [])) ≡ sum_by (λ (s : NodeRecord). length s.terms) (rs ++ r ∷ []) = sum-map (λ (s : NodeRecord). length s.terms) (rs ++ r ∷ []) in
+          let b : sum (map (λ (s : NodeRecord). length s.terms) rs) ≡ sum_by (λ (s : NodeRecord). length s.terms) rs = sum-map (λ (s : NodeRecord). length s.terms) rs in
+          let c : sum_by (λ (s : NodeRecord). length s.terms) (rs ++ r ∷ []) ≡ sum_by (λ (s : NodeRecord). length s.terms) rs + length r.terms = sum_by_push (λ (s : NodeRecord). length s.terms) rs r in
+          omega (arith, a, b, c)
 
-  pub taken_inside : All (λ s. s.first + s.count ≤ length (room ++ sorted)) (set spans node (record { scale = scale; first = first; count = count }))
-  taken_inside =
+  pub added_inside : All (λ s. s.first + s.count ≤ length (room ++ sorted)) (spans ++ record { scale = scale; first = first; count = count } ∷ [])
+  added_inside =
       let long : length (room ++ sorted) ≡ length room + length sorted = length-append room sorted in
       let same : length sorted ≡ length shown.terms = same_count in
-      All-set (λ (s : Span). s.first + s.count ≤ length (room ++ sorted)) spans node (record { scale = scale; first = first; count = count }) (omega arith)
-      (All-weaker (λ (s : Span). s.first + s.count ≤ length room) (λ (s : Span). s.first + s.count ≤ length (room ++ sorted)) (λ s l. omega arith) spans inside)
+      All-push (λ (s : Span). s.first + s.count ≤ length (room ++ sorted)) spans (record { scale = scale; first = first; count = count })
+      (All-weaker (λ (s : Span). s.first + s.count ≤ length room) (λ (s : Span). s.first + s.count ≤ length (room ++ sorted)) (λ s l. omega arith) spans inside) (omega arith)
 
-  pub taken_in : more ≡ new_cuts cuts shown.terms
-      → IsTakenIn (record { cuts = cuts; used = length room; records = map (record_of room) spans }) node shown
-      (record { cuts = cuts'; used = length (room ++ sorted); records = map (record_of (room ++ sorted)) (set spans node (record { scale = scale; first = first; count = count })) })
-  taken_in em =
-      let there : node < length (map (record_of room) spans) = rw length-map within in
-      let at : record_at (map (record_of (room ++ sorted)) (set spans node (record { scale = scale; first = first; count = count }))) node ≡ record { scale = shown.scale; terms = sorted } =
-      ap (λ (rs : List NodeRecord). record_at rs node) new_records ∙ get_or-set_same (map (record_of room) spans) node (record { scale = shown.scale; terms = sorted }) empty_record there in
+  pub added : more ≡ new_cuts cuts shown.terms
+      → IsAdded (laid cuts room spans numbers) node shown (laid cuts' (room ++ sorted) (spans ++ record { scale = scale; first = first; count = count } ∷ []) (set numbers node next))
+  added em =
+      let there : node < length (map (record_at (map (record_of room) spans)) numbers) = rw length-map within in
+      let at : record_at (map (record_at (map (record_of (room ++ sorted)) (spans ++ record { scale = scale; first = first; count = count } ∷ []))) (set numbers node next)) node ≡ record { scale = shown.scale; terms = sorted } =
+      ap (λ (rs : List NodeRecord). record_at rs node) new_records ∙ get_or-set_same (map (record_at (map (record_of room) spans)) numbers) node (record { scale = shown.scale; terms = sorted }) empty_record there in
       let perm' = IsPermutation-map (λ (t : NumberedTerm). record { cut = cut_at cuts' t.cut; multiplier = t.multiplier }) fresh sorted perm in
       record {
         cuts = grows ∙ ap (λ (cs : List CutKind). cuts ++ cs) em;
         used = length-append room sorted ∙ ap (λ k. length room + k) same_count;
         own = subst (IsNumbered cuts' shown) (sym at) (record { scale = refl; terms = subst (λ (ts : List Term). IsPermutation ts (terms_of cuts' sorted)) terms perm'; rising = rising });
-        others = new_records ∙ ap (λ (r : NodeRecord). set (map (record_of room) spans) node r) (sym at);
+        others = new_records ∙ ap (λ (r : NodeRecord). set (map (record_at (map (record_of room) spans)) numbers) node r) (sym at);
+        numbers = ap (set numbers node) (en ∙ sym (length-map spans (record_of room)));
+        kept = new_kept ∙ ap (λ (r : NodeRecord). map (record_of room) spans ++ r ∷ []) (sym at);
       }
 
 -- a cut that is read after those before it differs from them
@@ -309,9 +387,19 @@ read_new cuts terms i e cut old different rising listed within ec eo k d lt same
 pub fits_room : (k used room : ℕ) (b : Bool) → (eqb k 0 || (leb (used + k) room && b)) ≡ true → used ≤ room → used + k ≤ room
 fits_room k used room b e le = grind (arith, nat_tests)
 
--- the record of a span that was read
-pub span_record : (n : ℕ) (room : List NumberedTerm) (spans : List Span) (node : ℕ) (span : Span) → All (IsNodeRecord n) (map (record_of room) spans) → node < length spans → span ≡ get_or spans node span → IsNodeRecord n (record_of room span)
-span_record n room spans node span each within is = subst (λ (s : Span). IsNodeRecord n (record_of room s)) (sym is) (all_unmapped (IsNodeRecord n) (record_of room) spans each node span within)
+-- the span of a node's number
+pub span_read : (room : List NumberedTerm) (spans : List Span) (numbers : List ℕ) (node number : ℕ) (span : Span) → All (λ k. k < length (map (record_of room) spans)) numbers → node < length numbers
+    → number ≡ get_or numbers node number → span ≡ get_or spans number span → record_of room span ≡ record_at (map (record_at (map (record_of room) spans)) numbers) node
+span_read room spans numbers node number span inside within en is =
+    let at : number ≡ number_at numbers node = en ∙ get_or_default numbers node number 0 within in
+    let low : number < length (map (record_of room) spans) = subst (λ (k : ℕ). k < length (map (record_of room) spans)) (sym en) (inside node number within) in
+    let old : length (map (record_of room) spans) ≡ length spans = length-map spans (record_of room) in
+    let own : record_at (map (record_of room) spans) number ≡ record_of room span = get_or-map (record_of room) spans number span empty_record (omega arith) ∙ ap (record_of room) (sym is) in
+    sym own ∙ ap (record_at (map (record_of room) spans)) at ∙ sym (get_or-map (record_at (map (record_of room) spans)) numbers node 0 empty_record within)
+
+-- the record of a node's span
+pub span_record : (n : ℕ) (room : List NumberedTerm) (records : List NodeRecord) (node : ℕ) (span : Span) → All (IsNodeRecord n) records → node < length records → record_of room span ≡ record_at records node → IsNodeRecord n (record_of room span)
+span_record n room records node span each within is = subst (IsNodeRecord n) (sym is) (each node empty_record within)
 
 -- the part of the room that a span names
 pub span_part : (P : List NumberedTerm → Type 0) (room seen : List NumberedTerm) (s : Span) → seen ≡ room → P (record_of room s).terms → P (take (s.first + s.count - s.first) (drop s.first seen))

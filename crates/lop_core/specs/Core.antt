@@ -1,10 +1,10 @@
 -- What contracts see of a core, what is true of it, and its steps.
-use Rattle.std.specs.Prelude.{◌≡◌, ℕ, ◌+◌, ◌*◌, ◌<◌, ◌≤◌, ◌<ℤ◌, ◌≤ℤ◌, List, [], ◌∷◌, ◌++◌, length, All, Bool}
+use Rattle.std.specs.Prelude.{◌≡◌, ℕ, ◌+◌, ◌*◌, ◌<◌, ◌≤◌, ◌<ℤ◌, ◌≤ℤ◌, List, [], ◌∷◌, ◌++◌, length, All, Bool, ◌||◌}
 use Rattle.lop_model.specs.Order.{IsOrder}
 use Rattle.lop_model.specs.Matrix.{Matrix, weight}
 use Rattle.lop_cuts.specs.Kind.{FitsCut}
 use Rattle.lop_leaf.specs.Bound.{CertifiesUnder}
-use Rattle.lop_leaf.specs.Ticket.{TicketFields, pair_count}
+use Rattle.lop_leaf.specs.Ticket.{TicketFields}
 use Rattle.lop_leaf.specs.Evaluated.{EvaluatedFields}
 use Rattle.lop_leaf.specs.Sound.{IsSoundTicket, IsSoundResult}
 use Rattle.lop_core.specs.declared.node.SearchNode.{SearchNode}
@@ -16,7 +16,7 @@ use Rattle.lop_core.specs.declared.reply.TakeReply.TheVariants.{Node, Done, AllO
 use Rattle.lop_core.specs.declared.reply.ReportReply.{ReportReply}
 use Rattle.lop_core.specs.declared.reply.ReportReply.TheVariants.{Closed, Split, NotYours}
 use Rattle.lop_core.specs.Tree.{node_at, path_of, out_count}
-use Rattle.lop_core.specs.Records.{NodeRecord, RecordBook, empty_record, record_at, scaled_of, term_room, finds_room, IsTakenOrKept, with_children}
+use Rattle.lop_core.specs.Records.{NodeRecord, RecordBook, empty_record, record_at, scaled_of, term_room, finds_room, is_own, IsTakenOrKept, with_children}
 use Rattle.lop_core.specs.Machine.{Problem, SearchState, root_state, after, IsOutTo, IsLive, IsReady, IsFirstReady}
 use Rattle.lop_core.specs.Journal.{replay, room_count, MayTake, IsLawfulJournal}
 
@@ -40,21 +40,22 @@ abbrev pub AreCertified : Matrix → RecordBook → List SearchNode → Type 0
 AreCertified C book nodes =
     (i : ℕ) → i < length nodes → CertifiesUnder C (path_of nodes i) (scaled_of book.cuts (record_at book.records i)) (node_at nodes i).bound
 
--- each node has a record that certifies its bound; the cuts are of the objects; and no more terms and cuts came than the reports with room brought
+-- each node has a record that certifies its bound; the cuts are of the objects; no more terms and cuts came than the reports with room brought; and no more records than one a report
 pub record AreRecorded (core : CoreFields) : Type 0 where
   pub same_length : length core.book.records ≡ length core.state.nodes
   pub certified : AreCertified core.problem.weights core.book core.state.nodes
   pub fit : All (FitsCut core.problem.weights.size) core.book.cuts
   pub terms : core.book.used ≤ 4096 * room_count core.journal
   pub cuts : length core.book.cuts ≤ 4096 * room_count core.journal
+  pub kept : length core.book.kept ≤ core.state.evaluated + 1
 
 -- the core after an event is noted
 abbrev pub with_entry : CoreFields → Entry → List ℕ → CoreFields
 with_entry core entry order = record core { state = after core.state entry; journal = core.journal ++ entry ∷ []; order = order }
 
--- the records at the start: that of the root, without terms
+-- the records at the start: that of the root, without terms, which has number 0
 abbrev pub root_book : RecordBook
-root_book = record { cuts = []; used = 0; records = empty_record ∷ [] }
+root_book = record { cuts = []; used = 0; records = empty_record ∷ []; numbers = 0 ∷ []; kept = empty_record ∷ [] }
 
 -- a core at its start: the root alone, and no entry
 abbrev pub prepared : Problem → List ℕ → CoreFields
@@ -111,9 +112,9 @@ pub record IsSoundReport (core : CoreFields) (found : EvaluatedFields) : Type 0 
   pub is_of : IsTicketOf core found.node ticket
   pub sound : IsSoundResult core.problem.weights ticket found
 
--- whether the result's record finds room
+-- whether the result's record finds room: the node has it already, or its terms and cuts fit
 abbrev pub has_room_for : CoreFields → EvaluatedFields → Bool
-has_room_for core found = finds_room (term_room core.problem.budget) core.book found.shown.terms
+has_room_for core found = is_own core.book found.node found.shown || finds_room (term_room core.problem.budget) core.book found.shown.terms
 
 -- the entry of a report
 abbrev pub entry_of : CoreFields → ℕ → EvaluatedFields → Entry
@@ -145,11 +146,11 @@ IsReport old worker found (Split first) new = (step : IsReported old worker foun
 abbrev pub view_of : SearchNode → NodeRecord → NodeView
 view_of node r = record { parent = node.parent; pair = node.pair; bound = node.bound; standing = node.standing; scale = r.scale; terms = length r.terms }
 
--- the rooms hold all nodes, their records and the entries that a budget allows, and a path
-pub record HasRoom (n budget node_room journal_room path_room record_room : ℕ) : Type 0 where
+-- the rooms hold all nodes, the numbers of their records, the records and the entries that a budget allows
+pub record HasRoom (budget node_room journal_room number_room record_room : ℕ) : Type 0 where
   pub positive : 1 ≤ budget
   pub within_limit : budget ≤ 1000000
   pub for_nodes : 2 * budget + 1 ≤ node_room
   pub for_entries : 2 * budget ≤ journal_room
-  pub for_path : pair_count n ≤ path_room
-  pub for_records : 2 * budget + 1 ≤ record_room
+  pub for_numbers : 2 * budget + 1 ≤ number_room
+  pub for_records : budget + 1 ≤ record_room

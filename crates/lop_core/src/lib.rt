@@ -18,6 +18,6 @@ mod tests;
 
 pub use journal::Entry;
 pub use node::{NodeView, SearchNode, Standing};
-pub use records::{NumberedTerm, Records, Span};
+pub use records::NumberedTerm;
 pub use reply::{ReportReply, TakeReply};
 pub use search::Core;

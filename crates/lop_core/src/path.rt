@@ -1,48 +1,48 @@
-// The path of a node, and its ticket, without taking memory.
-ghost use Rattle.std.specs.Prelude.{◌≡◌, ◌<◌, ◌≤◌, length, reverse, vec_capacity};
+// The ticket of a node, written in place.
+ghost use Rattle.std.specs.Prelude.{◌≡◌, ◌<◌, ◌≤◌, [], length};
 ghost use Rattle.lop_leaf.specs.Ticket.{pair_count};
 ghost use Rattle.lop_core.specs.Tree.{AreLinked, node_at, path_of};
+ghost use Rattle.lop_core.specs.Records.{record_at, scaled_of};
+ghost use Rattle.lop_core.specs.Kept.{AreKept, book_of};
 
 use crate::node::SearchNode;
-use crate::room::put_last;
-use lop_leaf::{LeafRecord, Ticket};
-use lop_model::Pair;
+use crate::records::Records;
+use lop_leaf::Ticket;
 
-/// Writes the pairs from the root to the node into `path`, whose room suffices. O(the path's length).
-fn path_into(nodes: &[SearchNode], node: usize, path: &mut Vec<Pair>)
+/// Writes the pairs from the root to the node into the ticket. O(the path's length).
+fn write_path(nodes: &[SearchNode], node: usize, into: &mut Ticket)
     requires linked { AreLinked nodes.now }
     requires inside { node < length nodes.now }
-    requires room { length (path_of nodes.now node) ≤ vec_capacity path.old }
-    ensures path { path.new.items ≡ path_of nodes.now node }
-    ensures room { vec_capacity path.old ≤ vec_capacity path.new }
+    requires room { length (path_of nodes.now node) ≤ pair_count into.old.size }
+    requires empty { into.old.path ≡ [] }
+    ensures { into.new ≡ record into.old { path = path_of nodes.now node } }
 {
-    path.clear();
     let mut at = node;
     while at != 0 {
         let step = nodes[at];
-        put_last(path, step.pair);
+        into.push(step.pair);
         at = step.parent as usize;
     }
-    path.reverse();
+    into.reverse_path();
 }
 
-/// Writes the ticket of a node.
-pub fn fill_ticket(
+/// Writes the ticket of a node. O(the path's length and the terms of its record).
+pub fn write_ticket(
     nodes: &[SearchNode],
     node: u32,
     best: i128,
-    path: &mut Vec<Pair>,
-    inherited: &LeafRecord,
+    records: &Records,
     into: &mut Ticket,
 )
     requires linked { AreLinked nodes.now }
     requires inside { node < length nodes.now }
-    requires room { length (path_of nodes.now node) ≤ vec_capacity path.old }
-    requires ticket_room { length (path_of nodes.now node) ≤ pair_count into.old.size }
-    ensures ticket { into.new ≡ record { size = into.old.size; node = node; bound = (node_at nodes.now node).bound; best = best; path = path_of nodes.now node; inherited = inherited.now } }
-    ensures room { vec_capacity path.old ≤ vec_capacity path.new }
+    requires room { length (path_of nodes.now node) ≤ pair_count into.old.size }
+    requires kept { AreKept records.now }
+    requires numbered { length (book_of records.now).numbers ≡ length nodes.now }
+    ensures { into.new ≡ record { size = into.old.size; node = node; bound = (node_at nodes.now node).bound; best = best; path = path_of nodes.now node; inherited = scaled_of (book_of records.now).cuts (record_at (book_of records.now).records node) } }
 {
     let index = node as usize;
-    path_into(nodes, index, path);
-    into.fill(node, nodes[index].bound, best, path, inherited);
+    into.begin(node, nodes[index].bound, best);
+    write_path(nodes, index, into);
+    records.read(index, into.inherited_mut());
 }

@@ -1,12 +1,14 @@
 // The records of the nodes, in rooms that are made once.
-ghost use Rattle.std.specs.Prelude.{◌≡◌, ◌+◌, ◌*◌, ◌<◌, ◌≤◌, [], ◌∷◌, ◌++◌, length, true, All, AllPairs, IfOk, IfSome, IfNone, vec_len, vec_capacity, min, nat_le};
-ghost use Rattle.lop_core.specs.Records.{AreDifferentCuts, IsTakenIn, IsTakenOrKept, cut_room, empty_record, finds_room, new_cuts, record_at, scaled_of, term_room as term_room_of, terms_of, with_children};
+ghost use Rattle.std.specs.Prelude.{◌≡◌, ◌+◌, ◌*◌, ◌^◌, ◌<◌, ◌≤◌, ◌==◌, ◌&&◌, ◌||◌, [], ◌++◌, length, true, All, AllPairs, IfOk, IfSome, IfNone, vec_len, vec_capacity, min, nat_le};
+ghost use Rattle.std.specs.List.{list_all};
+ghost use Rattle.lop_core.specs.Core.{root_book};
+ghost use Rattle.lop_core.specs.Records.{AreDifferentCuts, IsAdded, IsTakenOrKept, cut_at, cut_room, finds_room, has_term, is_own, is_same, new_cuts, record_at, same_cut, scaled_of, term_room as term_room_of, terms_of, with_children};
 ghost use Rattle.lop_leaf.specs.Record.{IsMultiplier, IsScaledTerms};
-ghost use Rattle.lop_core.specs.Kept.{AreKept, book_of};
+ghost use Rattle.lop_core.specs.Kept.{AreKept, book_of, record_of};
 
 use crate::cut_index::{CUT_ROOM, CutIndex};
 use crate::room::put_last;
-use lop_leaf::{LeafRecord, MAX_TERMS};
+use lop_leaf::{LeafRecord, MAX_TERMS, Term};
 use std::alloc::{AllocError, Global};
 
 /// A term of a node's record.
@@ -17,7 +19,7 @@ pub struct NumberedTerm {
     pub multiplier: u64,
 }
 
-/// A node's record: its scale, and where its terms stand in the room of terms.
+/// A record: its scale, and where its terms stand in the room of terms.
 #[derive(Clone, Copy, Debug, PartialEq, Eq)]
 pub struct Span {
     pub scale: u32,
@@ -25,12 +27,14 @@ pub struct Span {
     pub count: u32,
 }
 
-/// The records of all nodes. A node's children have its span, so that nothing is copied.
+/// The records by number, and the number of each node's record. A node's children have its number, so that nothing
+/// is copied.
 #[derive(Drop)]
 pub struct Records {
     pub cuts: CutIndex,
     pub terms: Vec<NumberedTerm>,
     pub term_room: usize,
+    pub numbers: Vec<u32>,
     pub spans: Vec<Span>,
     pub fresh: Vec<NumberedTerm>,
 }
@@ -118,18 +122,72 @@ fn read_terms(cuts: &CutIndex, terms: &[NumberedTerm], into: &mut LeafRecord)
     }
 }
 
+/// Whether the term has the cut and the multiplier of another. O(1).
+fn is_term(cuts: &CutIndex, own: NumberedTerm, term: &Term) -> bool
+    requires { own.cut < length cuts.now }
+    ensures { result ≡ ((own.multiplier == term.now.multiplier) && same_cut (cut_at cuts.now own.cut) term.now.cut) }
+{
+    own.multiplier == term.multiplier && *cuts.get(own.cut) == term.cut
+}
+
+/// Whether one of the terms has the cut and the multiplier. O(1) where it is the one at the index, and else O(terms).
+fn has_term(cuts: &CutIndex, own: &[NumberedTerm], index: usize, term: &Term) -> bool
+    requires listed { All (λ t. t.cut < length cuts.now) own.now }
+    requires inside { index < length own.now }
+    ensures { result ≡ has_term cuts.now own.now term.now }
+{
+    if is_term(cuts, own[index], term) {
+        return true;
+    }
+    for other in own {
+        if is_term(cuts, *other, term) {
+            return true;
+        }
+    }
+    false
+}
+
+/// Whether the record has these terms, as many, in whatever order. O(terms) where they stand in the same order.
+fn has_terms(cuts: &CutIndex, own: &[NumberedTerm], shown: &LeafRecord) -> bool
+    requires listed { All (λ t. t.cut < length cuts.now) own.now }
+    requires same_length { length own.now ≡ length shown.now.terms }
+    ensures { result ≡ list_all (λ t. has_term cuts.now own.now t) shown.now.terms }
+{
+    for index in 0..shown.len() {
+        if !has_term(cuts, own, index, shown.term(index)) {
+            return false;
+        }
+    }
+    true
+}
+
+/// Whether a record has the scale and the terms of another, in whatever order.
+fn is_same(cuts: &CutIndex, room: &[NumberedTerm], span: Span, shown: &LeafRecord) -> bool
+    requires inside { span.first + span.count ≤ length room.now }
+    requires listed { All (λ t. t.cut < length cuts.now) (record_of room.now span).terms }
+    ensures same { result ≡ is_same cuts.now (record_of room.now span) shown.now }
+    ensures shown { IsScaledTerms shown.now }
+{
+    let first = span.first as usize;
+    let own = &room[first..first + span.count as usize];
+    span.scale == shown.scale() && own.len() == shown.len() && has_terms(cuts, own, shown)
+}
+
 impl Records {
     /// Takes all the memory that the records of a search with this budget need. There is the record of the root,
     /// without terms.
     pub fn prepare(alloc: Global, budget: u32) -> Result<Self, AllocError>
         requires { budget ≤ 1000000 }
-        ensures book { IfOk result (λ r. book_of r ≡ record { cuts = []; used = 0; records = empty_record ∷ [] }) }
+        ensures book { IfOk result (λ r. book_of r ≡ root_book) }
         ensures kept { IfOk result AreKept }
         ensures term_room { IfOk result (λ r. r.term_room ≡ term_room_of budget) }
-        ensures for_nodes { IfOk result (λ r. 2 * budget + 1 ≤ vec_capacity r.spans) }
+        ensures for_nodes { IfOk result (λ r. 2 * budget + 1 ≤ vec_capacity r.numbers) }
+        ensures for_records { IfOk result (λ r. budget + 1 ≤ vec_capacity r.spans) }
     {
         let room = term_room(budget);
-        let mut spans = Vec::with_capacity(alloc, 2 * budget as usize + 1)?;
+        let mut numbers = Vec::with_capacity(alloc, 2 * budget as usize + 1)?;
+        put_last(&mut numbers, 0);
+        let mut spans = Vec::with_capacity(alloc, budget as usize + 1)?;
         put_last(
             &mut spans,
             Span {
@@ -142,6 +200,7 @@ impl Records {
             cuts: CutIndex::new(alloc)?,
             terms: Vec::with_capacity(alloc, room)?,
             term_room: room,
+            numbers,
             spans,
             fresh: Vec::with_capacity(alloc, MAX_TERMS)?,
         })
@@ -157,71 +216,108 @@ impl Records {
             || (self.terms.len() + shown.len() <= self.term_room && has_cut_room(&self.cuts, shown))
     }
 
-    /// Gives the node this record, which finds room. O(terms, each with the log of the number of terms and cuts),
-    /// and O(the number of cuts) for each new cut.
-    fn take_in(&mut self, node: usize, shown: &LeafRecord)
+    /// Whether the node has this record already. O(terms) where its terms stand in the order of the cuts' numbers, as in
+    /// a ticket.
+    fn is_own(&self, node: usize, shown: &LeafRecord) -> bool
+        requires kept { AreKept self.now }
+        requires inside { node < vec_len self.now.numbers }
+        ensures own { result ≡ is_own (book_of self.now) node shown.now }
+        ensures shown { IsScaledTerms shown.now }
+    {
+        is_same(&self.cuts, &self.terms, self.span(node), shown)
+    }
+
+    /// Adds this record, which finds room, and gives the node its number. O(terms, each with the log of the number of
+    /// terms and cuts), and O(the number of cuts) for each new cut.
+    fn add(&mut self, node: usize, shown: &LeafRecord)
         requires kept { AreKept self.old }
         requires room { finds_room self.old.term_room (book_of self.old) shown.now.terms ≡ true }
-        requires inside { node < vec_len self.old.spans }
-        ensures taken { IsTakenIn (book_of self.old) node shown.now (book_of self.new) }
+        requires inside { node < vec_len self.old.numbers }
+        requires for_record { vec_len self.old.spans < vec_capacity self.old.spans }
+        requires small { vec_len self.old.spans < 2 ^ 32 }
+        ensures added { IsAdded (book_of self.old) node shown.now (book_of self.new) }
         ensures kept { AreKept self.new }
         ensures term_room { self.new.term_room ≡ self.old.term_room }
-        ensures for_nodes { vec_capacity self.new.spans ≡ vec_capacity self.old.spans }
+        ensures for_nodes { vec_capacity self.new.numbers ≡ vec_capacity self.old.numbers }
+        ensures for_records { vec_capacity self.old.spans ≤ vec_capacity self.new.spans }
     {
         number_terms(&mut self.cuts, shown, &mut self.fresh);
         self.fresh.sort_unstable_by_key(|term| term.cut);
         let first = self.terms.len() as u32;
+        let number = self.spans.len() as u32;
         append_terms(&mut self.terms, &self.fresh);
-        self.spans[node] = Span {
-            scale: shown.scale(),
-            first,
-            count: shown.len() as u32,
-        };
+        self.numbers[node] = number;
+        put_last(
+            &mut self.spans,
+            Span {
+                scale: shown.scale(),
+                first,
+                count: shown.len() as u32,
+            },
+        );
     }
 
-    /// Gives the node this record where it finds room, and answers whether it does.
+    /// Gives the node this record where it has it already or where it finds room, and answers whether that is so. A
+    /// record that the node has takes no room.
     pub fn offer(&mut self, node: usize, shown: &LeafRecord) -> bool
         requires kept { AreKept self.old }
-        requires inside { node < vec_len self.old.spans }
-        ensures room { result ≡ finds_room self.old.term_room (book_of self.old) shown.now.terms }
+        requires inside { node < vec_len self.old.numbers }
+        requires for_record { vec_len self.old.spans < vec_capacity self.old.spans }
+        requires small { vec_len self.old.spans < 2 ^ 32 }
+        ensures room { result ≡ (is_own (book_of self.old) node shown.now || finds_room self.old.term_room (book_of self.old) shown.now.terms) }
         ensures shown { IsScaledTerms shown.now }
         ensures taken { IsTakenOrKept result (book_of self.old) node shown.now (book_of self.new) }
         ensures kept { AreKept self.new }
         ensures term_room { self.new.term_room ≡ self.old.term_room }
-        ensures for_nodes { vec_capacity self.new.spans ≡ vec_capacity self.old.spans }
+        ensures for_nodes { vec_capacity self.new.numbers ≡ vec_capacity self.old.numbers }
+        ensures for_records { vec_capacity self.old.spans ≤ vec_capacity self.new.spans }
     {
+        if self.is_own(node, shown) {
+            return true;
+        }
         let room = self.finds_room(shown);
         if room {
-            self.take_in(node, shown);
+            self.add(node, shown);
         }
         room
     }
 
-    /// Gives the record of a node to its two children, where it was split.
+    /// Gives the number of a node's record to its two children, where it was split.
     pub fn inherit(&mut self, node: usize, first: Option<u32>)
         requires kept { AreKept self.old }
-        requires inside { node < vec_len self.old.spans }
-        requires room { IfSome first (λ _. vec_len self.old.spans + 2 ≤ vec_capacity self.old.spans) }
+        requires inside { node < vec_len self.old.numbers }
+        requires room { IfSome first (λ _. vec_len self.old.numbers + 2 ≤ vec_capacity self.old.numbers) }
         ensures split { IfSome first (λ _. book_of self.new ≡ with_children (book_of self.old) node) }
         ensures closed { IfNone first (book_of self.new ≡ book_of self.old) }
         ensures kept { AreKept self.new }
         ensures term_room { self.new.term_room ≡ self.old.term_room }
-        ensures for_nodes { vec_capacity self.old.spans ≤ vec_capacity self.new.spans }
+        ensures for_nodes { vec_capacity self.old.numbers ≤ vec_capacity self.new.numbers }
+        ensures for_records { vec_capacity self.new.spans ≡ vec_capacity self.old.spans }
     {
         if first.is_some() {
-            let span = self.spans[node];
-            put_last(&mut self.spans, span);
-            put_last(&mut self.spans, span);
+            let number = self.numbers[node];
+            put_last(&mut self.numbers, number);
+            put_last(&mut self.numbers, number);
         }
+    }
+
+    /// The record of a node.
+    pub fn span(&self, node: usize) -> Span
+        requires kept { AreKept self.now }
+        requires inside { node < vec_len self.now.numbers }
+        ensures record { record_of self.now.terms.items result ≡ record_at (book_of self.now).records node }
+        ensures within { result.first + result.count ≤ vec_len self.now.terms }
+    {
+        self.spans[self.numbers[node] as usize]
     }
 
     /// Writes the record of a node with its cuts. O(terms).
     pub fn read(&self, node: usize, into: &mut LeafRecord)
         requires kept { AreKept self.now }
-        requires inside { node < vec_len self.now.spans }
+        requires inside { node < vec_len self.now.numbers }
         ensures { into.new ≡ scaled_of (book_of self.now).cuts (record_at (book_of self.now).records node) }
     {
-        let span = self.spans[node];
+        let span = self.span(node);
         let first = span.first as usize;
         into.clear();
         into.set_scale(span.scale);

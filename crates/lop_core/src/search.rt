@@ -13,12 +13,12 @@ ghost use Rattle.lop_core.specs.Machine.{IsLive, IsOutTo, live_count, ready_coun
 ghost use Rattle.lop_core.specs.Journal.{HasTake, HasReport, entries_of, AreCounted};
 ghost use Rattle.lop_core.specs.AllOrders.{factorial};
 ghost use Rattle.lop_core.specs.Core.{CoreFields, HasHistory, IsTake, OnNode, IsReport, IsSoundReport, AreRecorded, prepared, view_of};
-ghost use Rattle.lop_core.specs.Records.{IsNodeRecord, IsRecordBook, cut_at, record_at, scaled_of};
+ghost use Rattle.lop_core.specs.Records.{HaveTermsWithin, IsNodeRecord, IsRecordBook, cut_at, number_at, record_at, scaled_of, term_room};
 
 use crate::candidates::Candidates;
 use crate::journal::Entry;
 use crate::node::{NodeView, SearchNode, Standing};
-use crate::path::fill_ticket;
+use crate::path::write_ticket;
 use crate::records::Records;
 use crate::reply::{ReportReply, TakeReply};
 use crate::room::put_last;
@@ -26,7 +26,7 @@ use crate::scan::{count_live, count_ready, first_live, greatest_bound};
 use crate::settle::{child, either, is_out_to, keep_better, settle};
 use crate::start::root_bound;
 use lop_cuts::Cut;
-use lop_leaf::{Evaluated, LeafRecord, Ticket};
+use lop_leaf::{Evaluated, Ticket};
 use lop_model::{Order, Pair, Weights};
 use lop_value::value;
 use std::alloc::{AllocError, Global};
@@ -45,9 +45,7 @@ pub struct Core {
     out: u32,
     journal: Vec<Entry>,
     order: Order,
-    path: Vec<Pair>,
     records: Records,
-    inherited: LeafRecord,
     candidates: Candidates,
 }
 
@@ -81,13 +79,13 @@ impl Model for Core {
       journal = c.journal.items;
       order = c.order;
       book = book_of c.records;
-    }) × HasRoom c.weights.size c.budget (vec_capacity c.nodes) (vec_capacity c.journal) (vec_capacity c.path) (vec_capacity c.records.spans) × (c.out ≡ out_count c.nodes.items) × AreKept c.records × (c.records.term_room ≡ term_room c.budget) × HasCandidates (record { nodes = c.nodes.items; best = c.best; evaluated = c.evaluated }) c.budget c.out c.candidates };
+    }) × HasRoom c.budget (vec_capacity c.nodes) (vec_capacity c.journal) (vec_capacity c.records.numbers) (vec_capacity c.records.spans) × (c.out ≡ out_count c.nodes.items) × AreKept c.records × (c.records.term_room ≡ term_room c.budget) × HasCandidates (record { nodes = c.nodes.items; best = c.best; evaluated = c.evaluated }) c.budget c.out c.candidates };
 }
 
 impl Core {
     /// Copies the weights and the order, and takes all the memory that the search will need: room for 2 * budget + 1
-    /// nodes, 2 * budget entries, budget + 1 candidates, a path, 4,096 + min(1,024 * budget, 67,108,864) terms and
-    /// 65,536 cuts. The root is idle, with the pair bound. O(n² + budget).
+    /// nodes, 2 * budget entries, budget + 1 candidates, budget + 1 records, 4,096 + min(1,024 * budget, 67,108,864)
+    /// terms and 65,536 cuts. The root is idle, with the pair bound. O(n²).
     pub fn prepare(
         alloc: Global,
         weights: &Weights,
@@ -107,7 +105,6 @@ impl Core {
         put_last(&mut nodes, child(0, Pair::default(), bound));
         let mut kept = Order::first(alloc, n)?;
         kept.copy_from(order);
-        let pairs = n as usize * (n as usize).saturating_sub(1) / 2;
         let mut candidates = Candidates::with_room(alloc, budget as usize + 1)?;
         candidates.put(0, bound);
         Ok(Core {
@@ -120,9 +117,7 @@ impl Core {
             out: 0,
             journal: Vec::with_capacity(alloc, places)?,
             order: kept,
-            path: Vec::with_capacity(alloc, pairs)?,
             records: Records::prepare(alloc, budget)?,
-            inherited: LeafRecord::new(alloc)?,
             candidates,
         })
     }
@@ -146,15 +141,7 @@ impl Core {
         }
         let index = node as usize;
         self.candidates.remove_top();
-        self.records.read(index, &mut self.inherited);
-        fill_ticket(
-            &self.nodes,
-            node,
-            self.best,
-            &mut self.path,
-            &self.inherited,
-            into,
-        );
+        write_ticket(&self.nodes, node, self.best, &self.records, into);
         self.nodes[index].standing = Standing::Out(worker);
         self.out += 1;
         put_last(&mut self.journal, Entry::Take { worker, node });
@@ -290,7 +277,7 @@ impl Core {
         ensures terms { IsNodeRecord (length self.now.book.cuts) (record_at self.now.book.records index) }
     {
         let node = self.nodes[index as usize];
-        let span = self.records.spans[index as usize];
+        let span = self.records.span(index as usize);
         NodeView {
             parent: node.parent,
             pair: node.pair,
@@ -309,9 +296,21 @@ impl Core {
         ensures cut { result.0 < length self.now.book.cuts }
         ensures multiplier { IsMultiplier result.1 }
     {
-        let span = self.records.spans[node as usize];
+        let span = self.records.span(node as usize);
         let term = self.records.terms[(span.first + index) as usize];
         (term.cut, term.multiplier)
+    }
+
+    /// The number of a node's record. Nodes with equal numbers have equal records; a child starts with its parent's
+    /// number, and the root with 0.
+    pub fn record_of(&self, node: u32) -> u32
+        requires { node < length self.now.state.nodes }
+        ensures value { result ≡ number_at self.now.book.numbers node }
+        ensures at_most { result ≤ self.now.state.evaluated }
+        ensures equal { (other : ℕ) → other < length self.now.state.nodes → number_at self.now.book.numbers other ≡ result → record_at self.now.book.records other ≡ record_at self.now.book.records node }
+        ensures terms { HaveTermsWithin self.now.book (term_room self.now.problem.budget) }
+    {
+        self.records.numbers[node as usize]
     }
 
     /// The number of distinct cuts of all records.

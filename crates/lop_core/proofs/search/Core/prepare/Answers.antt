@@ -28,9 +28,6 @@ invariant_of-result-2 c =
     c.put_last.ensures.items ∙ (ap (λ xs. xs ++ c.child.result ∷ []) c.in_ok-nodes.ensures.items
     ∙ ap (λ (x : SearchNode). x ∷ []) (c.child.ensures ∙ (ap (λ k. child 0 (record { before = k; after = c.default.result.after }) (to_z w128 (of_z w128 c.in_ok-bound.bound))) c.default.ensures.0
     ∙ (ap (λ k. child 0 (record { before = 0; after = k }) (to_z w128 (of_z w128 c.in_ok-bound.bound))) c.default.ensures.1 ∙ ap (child 0 no_pair) bound)))) in
-    let less : c.saturating_sub.result ≡ c.n-n.result - 1 = search rules in
-    let product : c.n-n.result * c.saturating_sub.result ≡ c.n-n.result * (c.n-n.result - 1) = ap (λ k. c.n-n.result * k) less in
-    let size : c.in_ok-copy.field-0.size ≡ c.n-n.result = ap (λ (m : Matrix). m.size) same ∙ sym (c.n-n.ensures.size ∙ c.requires.same_n) in
     let journal : c.in_ok-with_capacity.field-0.items ≡ [] = search rules in
     let put = subst (λ (cs : List Candidate). IsPermutation (candidate (pair_bound c.args.weights.now []) 0 ∷ cs) (candidates_of c.put.new.self)) c.in_ok-candidates.ensures.empty
     (subst (λ (b : ℤ). IsPermutation (candidate b 0 ∷ candidates_of c.in_ok-candidates.candidates) (candidates_of c.put.new.self)) bound c.put.ensures.more) in
@@ -42,8 +39,8 @@ invariant_of-result-2 c =
         within_limit = c.requires.within_limit;
         for_nodes = omega (arith, c.put_last.ensures.room, c.in_ok-nodes.ensures.capacity);
         for_entries = omega (arith, c.in_ok-with_capacity.ensures.capacity);
-        for_path = rw size (omega (arith, product, c.in_ok-with_capacity-2.ensures.capacity));
-        for_records = c.in_ok-prepare.ensures.for_nodes;
+        for_numbers = c.in_ok-prepare.ensures.for_nodes;
+        for_records = c.in_ok-prepare.ensures.for_records;
       },
       kept.2,
       c.in_ok-prepare.ensures.kept,

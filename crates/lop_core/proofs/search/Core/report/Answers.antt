@@ -4,13 +4,13 @@ use Rattle.std.proofs.lemmas.Option.{IfSome_then}
 use mir.Syntax.{w128}
 use Rattle.lop_core.specs.declared.node.Standing.TheVariants.{Out}
 use Rattle.lop_core.specs.Machine.{IsOutTo}
-use Rattle.lop_core.specs.Records.{with_children}
+use Rattle.lop_core.specs.Records.{with_children, record_at}
 use Rattle.lop_core.specs.Core.{CoreFields, IsSoundReport}
 use Rattle.lop_core.specs.contracts.search.Core.{the_view}
 use Rattle.lop_core.proofs.CoreLemmas.{core_counted, report_counts, out_to, not_out_to, not_there, Leaves, leaves_by, left_true, left_outs, left_noted, left_keeps, kept_is, room_is, taken_is, report_facts, report_laws, report_candidates, if_some}
 use Rattle.lop_core.proofs.BookLemmas.{GrownBook, grown_by}
 use Rattle.lop_core.specs.Candidates.{candidates_of}
-use Rattle.lop_core.specs.Kept.{book_of, record_of}
+use Rattle.lop_core.specs.Kept.{book_of, kept_of, record_of}
 use Rattle.lop_leaf.specs.Record.{IsScaledTerms}
 use Rattle.std.proofs.lemmas.List.{length-map}
 use Rattle.lop_core.proofs.search.Core.report.Goals as goal
@@ -45,6 +45,21 @@ overflow_sub-self c =
     let out = out_to (the_view c.self.inside).state c.args.worker c.node-node.result c.index.result.now lt c.index.ensures (c.if-not-is_out_to.ensures.0 refl) in
     omega (arith, report_counts (the_view c.self.inside) c.args.worker c.node-node.result c.self.invariant.0 out, c.self.invariant.3)
 
+pub offer-room-requires-clause-for_record : goal.offer-room-requires-clause-for_record
+offer-room-requires-clause-for_record c =
+    let lt : c.node-node.result < length c.self.inside.nodes.items = omega (arith, c.len.ensures, c.if-index-len.false) in
+    let out = out_to (the_view c.self.inside).state c.args.worker c.node-node.result c.index.result.now lt c.index.ensures (c.if-not-is_out_to.ensures.0 refl) in
+    let h = core_counted _ c.self.invariant.0 in
+    let one = report_counts (the_view c.self.inside) c.args.worker c.node-node.result c.self.invariant.0 out in
+    let kept : length (kept_of c.self.inside.records) ≡ length c.self.inside.records.spans.items = length-map c.self.inside.records.spans.items (record_of c.self.inside.records.terms.items) in
+    omega (arith, kept, c.self.invariant.1.kept, h.within, one, c.self.invariant.2.for_records)
+
+pub offer-room-requires-clause-small : goal.offer-room-requires-clause-small
+offer-room-requires-clause-small c =
+    let h = core_counted _ c.self.invariant.0 in
+    let kept : length (kept_of c.self.inside.records) ≡ length c.self.inside.records.spans.items = length-map c.self.inside.records.spans.items (record_of c.self.inside.records.terms.items) in
+    omega (arith, kept, c.self.invariant.1.kept, h.within, c.self.invariant.2.within_limit)
+
 pub put_last-requires : goal.put_last-requires
 put_last-requires c =
     let lt : c.node-node.result < length c.self.inside.nodes.items = omega (arith, c.len.ensures, c.if-index-len.false) in
@@ -75,11 +90,11 @@ inherit-requires-clause-inside c =
     let out = subst (λ n. IsOutTo (the_view c.self.inside).state c.args.worker n) c.node-node.ensures (out_to (the_view c.self.inside).state c.args.worker c.node-node.result c.index.result.now lt c.index.ensures (c.if-not-is_out_to.ensures.0 refl)) in
     let sound = subst (λ (v : CoreFields). IsOutTo v.state c.args.worker c.args.found.now.node → IsSoundReport v c.args.found.now) (sym c.self.view_is) c.requires.sound out in
     let few = subst IsScaledTerms c.shown.ensures c.offer-room.ensures.shown in
-    let room = room_is (the_view c.self.inside) c.args.found.now c.offer-room.result c.self.inside.records.term_room c.shown.result.now c.offer-room.ensures.room c.self.invariant.5 c.shown.ensures in
+    let room = room_is (the_view c.self.inside) c.args.found.now c.offer-room.result c.self.inside.records.term_room c.node-node.result c.shown.result.now c.offer-room.ensures.room c.self.invariant.5 c.node-node.ensures c.shown.ensures in
     let taken = taken_is (book_of c.self.inside.records) (book_of c.offer-room.new.self) c.offer-room.result _ c.node-node.result c.args.found.now.node c.shown.result.now c.args.found.now.shown room c.node-node.ensures c.shown.ensures c.offer-room.ensures.taken in
     let facts = report_facts (the_view c.self.inside) c.args.found.now (book_of c.offer-room.new.self) c.self.invariant.0 c.self.invariant.1 c.self.invariant.4.book (subst (λ n. n < length c.self.inside.nodes.items) c.node-node.ensures lt) sound few taken in
-    let spans : length c.offer-room.new.self.spans.items ≡ length c.self.inside.nodes.items = sym (length-map c.offer-room.new.self.spans.items (record_of c.offer-room.new.self.terms.items)) ∙ facts.same_length in
-    omega (arith, spans, lt)
+    let numbers : length c.offer-room.new.self.numbers.items ≡ length c.self.inside.nodes.items = sym (length-map c.offer-room.new.self.numbers.items (record_at (kept_of c.offer-room.new.self))) ∙ facts.same_length in
+    omega (arith, numbers, lt)
 
 pub inherit-requires-clause-room : goal.inherit-requires-clause-room
 inherit-requires-clause-room c =
@@ -87,14 +102,14 @@ inherit-requires-clause-room c =
     let out = subst (λ n. IsOutTo (the_view c.self.inside).state c.args.worker n) c.node-node.ensures (out_to (the_view c.self.inside).state c.args.worker c.node-node.result c.index.result.now lt c.index.ensures (c.if-not-is_out_to.ensures.0 refl)) in
     let sound = subst (λ (v : CoreFields). IsOutTo v.state c.args.worker c.args.found.now.node → IsSoundReport v c.args.found.now) (sym c.self.view_is) c.requires.sound out in
     let few = subst IsScaledTerms c.shown.ensures c.offer-room.ensures.shown in
-    let room = room_is (the_view c.self.inside) c.args.found.now c.offer-room.result c.self.inside.records.term_room c.shown.result.now c.offer-room.ensures.room c.self.invariant.5 c.shown.ensures in
+    let room = room_is (the_view c.self.inside) c.args.found.now c.offer-room.result c.self.inside.records.term_room c.node-node.result c.shown.result.now c.offer-room.ensures.room c.self.invariant.5 c.node-node.ensures c.shown.ensures in
     let taken = taken_is (book_of c.self.inside.records) (book_of c.offer-room.new.self) c.offer-room.result _ c.node-node.result c.args.found.now.node c.shown.result.now c.args.found.now.shown room c.node-node.ensures c.shown.ensures c.offer-room.ensures.taken in
     let facts = report_facts (the_view c.self.inside) c.args.found.now (book_of c.offer-room.new.self) c.self.invariant.0 c.self.invariant.1 c.self.invariant.4.book (subst (λ n. n < length c.self.inside.nodes.items) c.node-node.ensures lt) sound few taken in
-    let spans : length c.offer-room.new.self.spans.items ≡ length c.self.inside.nodes.items = sym (length-map c.offer-room.new.self.spans.items (record_of c.offer-room.new.self.terms.items)) ∙ facts.same_length in
+    let numbers : length c.offer-room.new.self.numbers.items ≡ length c.self.inside.nodes.items = sym (length-map c.offer-room.new.self.numbers.items (record_at (kept_of c.offer-room.new.self))) ∙ facts.same_length in
     let own = out_to (the_view c.self.inside).state c.args.worker c.node-node.result c.index.result.now lt c.index.ensures (c.if-not-is_out_to.ensures.0 refl) in
     let h = core_counted _ c.self.invariant.0 in
     let one = report_counts (the_view c.self.inside) c.args.worker c.node-node.result c.self.invariant.0 own in
-    if_some c.settle-split.result (omega (arith, spans, h.size, h.splits, h.within, one, c.self.invariant.2.for_records, c.offer-room.ensures.for_nodes))
+    if_some c.settle-split.result (omega (arith, numbers, h.size, h.splits, h.within, one, c.self.invariant.2.for_numbers, c.offer-room.ensures.for_nodes))
 
 pub put_children-requires-clause-room : goal.put_children-requires-clause-room
 put_children-requires-clause-room c =
@@ -118,7 +133,7 @@ invariant_of-self c =
     let out = subst (λ n. IsOutTo (the_view c.self.inside).state c.args.worker n) c.node-node.ensures (out_to (the_view c.self.inside).state c.args.worker c.node-node.result c.index.result.now lt c.index.ensures (c.if-not-is_out_to.ensures.0 refl)) in
     let sound = subst (λ (v : CoreFields). IsOutTo v.state c.args.worker c.args.found.now.node → IsSoundReport v c.args.found.now) (sym c.self.view_is) c.requires.sound out in
     let few = subst IsScaledTerms c.shown.ensures c.offer-room.ensures.shown in
-    let room = room_is (the_view c.self.inside) c.args.found.now c.offer-room.result c.self.inside.records.term_room c.shown.result.now c.offer-room.ensures.room c.self.invariant.5 c.shown.ensures in
+    let room = room_is (the_view c.self.inside) c.args.found.now c.offer-room.result c.self.inside.records.term_room c.node-node.result c.shown.result.now c.offer-room.ensures.room c.self.invariant.5 c.node-node.ensures c.shown.ensures in
     let taken = taken_is (book_of c.self.inside.records) (book_of c.offer-room.new.self) c.offer-room.result _ c.node-node.result c.args.found.now.node c.shown.result.now c.args.found.now.shown room c.node-node.ensures c.shown.ensures c.offer-room.ensures.taken in
     let fb : FitsSigned w128 c.bound.result = search rules in
     let fb2 : FitsSigned w128 c.bound-2.result = search rules in
@@ -137,14 +152,14 @@ invariant_of-self c =
     let grown' = subst (λ n. GrownBook c.self.inside.nodes.items (book_of c.offer-room.new.self) n c.settle-split.result c.settle-split.new.nodes.items (book_of c.inherit.new.self)) c.node-node.ensures grown in (
       left_true (the_view c.self.inside) c.args.worker c.args.found.now _ _ _ _ l _ c.self.invariant.0 c.self.invariant.1 few out sound,
       report_laws (the_view c.self.inside) _ c.args.worker c.args.found.now c.keep_better.new.best (book_of c.offer-room.new.self) c.settle-split.result c.settle-split.new.nodes.items
-          c.self.invariant.0 c.self.invariant.1 c.self.invariant.4.book out sound few taken l.nodes_are grown' refl refl l.journal_is,
+          c.self.invariant.0 c.self.invariant.1 c.self.invariant.4.book out sound few taken l.nodes_are grown' refl refl l.journal_is refl,
       record {
         positive = c.self.invariant.2.positive;
         within_limit = c.self.invariant.2.within_limit;
         for_nodes = omega (arith, c.self.invariant.2.for_nodes, c.settle-split.ensures.room);
         for_entries = omega (arith, c.self.invariant.2.for_entries, c.put_last.ensures.room);
-        for_path = c.self.invariant.2.for_path;
-        for_records = omega (arith, c.self.invariant.2.for_records, c.offer-room.ensures.for_nodes, c.inherit.ensures.for_nodes);
+        for_numbers = omega (arith, c.self.invariant.2.for_numbers, c.offer-room.ensures.for_nodes, c.inherit.ensures.for_nodes);
+        for_records = omega (arith, c.self.invariant.2.for_records, c.offer-room.ensures.for_records, c.inherit.ensures.for_records);
       },
       omega (arith, c.self.invariant.3, left_outs (the_view c.self.inside) c.args.worker c.args.found.now _ _ _ _ l c.self.invariant.0 c.self.invariant.1 few out sound),
       c.inherit.ensures.kept,
@@ -164,7 +179,7 @@ returns c =
     let out = subst (λ n. IsOutTo (the_view c.self.inside).state c.args.worker n) c.node-node.ensures (out_to (the_view c.self.inside).state c.args.worker c.node-node.result c.index.result.now lt c.index.ensures (c.if-not-is_out_to.ensures.0 refl)) in
     let sound = subst (λ (v : CoreFields). IsOutTo v.state c.args.worker c.args.found.now.node → IsSoundReport v c.args.found.now) (sym c.self.view_is) c.requires.sound out in
     let few = subst IsScaledTerms c.shown.ensures c.offer-room.ensures.shown in
-    let room = room_is (the_view c.self.inside) c.args.found.now c.offer-room.result c.self.inside.records.term_room c.shown.result.now c.offer-room.ensures.room c.self.invariant.5 c.shown.ensures in
+    let room = room_is (the_view c.self.inside) c.args.found.now c.offer-room.result c.self.inside.records.term_room c.node-node.result c.shown.result.now c.offer-room.ensures.room c.self.invariant.5 c.node-node.ensures c.shown.ensures in
     let taken = taken_is (book_of c.self.inside.records) (book_of c.offer-room.new.self) c.offer-room.result _ c.node-node.result c.args.found.now.node c.shown.result.now c.args.found.now.shown room c.node-node.ensures c.shown.ensures c.offer-room.ensures.taken in
     let fb : FitsSigned w128 c.bound.result = search rules in
     let fb2 : FitsSigned w128 c.bound-2.result = search rules in

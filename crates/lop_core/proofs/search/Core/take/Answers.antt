@@ -1,5 +1,6 @@
 use Rattle.std.proofs.Common.{rules, ◌≡◌, ℕ, ◌+◌, ◌<◌, length, arith, sym, ◌∙◌, ap, subst, refl, FitsSigned}
 use Rattle.std.proofs.lemmas.Int.{to_z-of_z}
+use Rattle.std.proofs.lemmas.List.{length-map}
 use Rattle.std.proofs.lemmas.Option.{slice_get_within}
 use mir.Syntax.{w128}
 use Rattle.lop_core.specs.Tree.{AreLinked, out_count}
@@ -32,30 +33,26 @@ overflow_add-self-inside c =
     let h = core_counted _ c.self.invariant.0 in
     omega (arith, h.within, c.self.invariant.2.within_limit, c.self.invariant.3)
 
-pub fill_ticket-requires-clause-linked : goal.fill_ticket-requires-clause-linked
-fill_ticket-requires-clause-linked c = subst AreLinked (sym c.deref-2.ensures.value) (core_linked _ c.self.invariant.0)
+pub write_ticket-requires-clause-linked : goal.write_ticket-requires-clause-linked
+write_ticket-requires-clause-linked c = subst AreLinked (sym c.deref-2.ensures.value) (core_linked _ c.self.invariant.0)
 
-pub fill_ticket-requires-clause-inside : goal.fill_ticket-requires-clause-inside
-fill_ticket-requires-clause-inside c =
+pub write_ticket-requires-clause-inside : goal.write_ticket-requires-clause-inside
+write_ticket-requires-clause-inside c =
     let r = c.in-Some.ensures.found.ready in
     let lt : c.in-Some.node < length c.deref.result.now = slice_get_within c.deref.result.now c.in-Some.node r.it r.is_there in
     omega (arith, ap length c.deref.ensures.value, ap length c.deref-2.ensures.value)
 
-pub fill_ticket-requires-clause-room : goal.fill_ticket-requires-clause-room
-fill_ticket-requires-clause-room c =
-    let r = c.in-Some.ensures.found.ready in
-    let lt : c.in-Some.node < length c.deref.result.now = slice_get_within c.deref.result.now c.in-Some.node r.it r.is_there in
-    let d : length c.deref.result.now ≡ length c.self.inside.nodes.items = ap length c.deref.ensures.value in
-    let most = core_path_length _ c.self.invariant.0 c.in-Some.node (omega arith) in
-    rw c.deref-2.ensures.value (omega (arith, most, c.self.invariant.2.for_path))
-
-pub fill_ticket-requires-clause-ticket_room : goal.fill_ticket-requires-clause-ticket_room
-fill_ticket-requires-clause-ticket_room c =
+pub write_ticket-requires-clause-room : goal.write_ticket-requires-clause-room
+write_ticket-requires-clause-room c =
     let r = c.in-Some.ensures.found.ready in
     let lt : c.in-Some.node < length c.deref.result.now = slice_get_within c.deref.result.now c.in-Some.node r.it r.is_there in
     let d : length c.deref.result.now ≡ length c.self.inside.nodes.items = ap length c.deref.ensures.value in
     let most = core_path_length _ c.self.invariant.0 c.in-Some.node (omega arith) in
     rw (c.deref-2.ensures.value, c.requires.same_n, ← c.self.view_is) most
+
+pub write_ticket-requires-clause-numbered : goal.write_ticket-requires-clause-numbered
+write_ticket-requires-clause-numbered c =
+    sym (length-map c.self.inside.records.numbers.items _) ∙ c.self.invariant.1.same_length ∙ sym (ap length c.deref-2.ensures.value)
 
 pub index_mut-requires : goal.index_mut-requires
 index_mut-requires c =
@@ -113,13 +110,13 @@ invariant_of-self-2 c =
     let nodes = written_out c.self.inside.nodes.items c.in-Some.node c.args.worker c.index_mut.result.now inside c.index_mut.ensures.value in
     let history = core_take _ c.args.worker c.in-Some.node c.self.invariant.0 may in (
       subst HasHistory (sym (take_view _ c.args.worker c.in-Some.node _ _ nodes c.put_last.ensures.items)) history,
-      take_recorded (the_view c.self.inside) _ c.args.worker c.in-Some.node c.self.invariant.1 inside refl nodes refl c.put_last.ensures.items,
+      take_recorded (the_view c.self.inside) _ c.args.worker c.in-Some.node c.self.invariant.1 inside refl nodes refl c.put_last.ensures.items refl,
       record {
         positive = c.self.invariant.2.positive;
         within_limit = c.self.invariant.2.within_limit;
         for_nodes = c.self.invariant.2.for_nodes;
         for_entries = omega (arith, c.self.invariant.2.for_entries, c.put_last.ensures.room);
-        for_path = omega (arith, c.self.invariant.2.for_path, c.fill_ticket.ensures.room);
+        for_numbers = c.self.invariant.2.for_numbers;
         for_records = c.self.invariant.2.for_records;
       },
       ap (λ (k : ℕ). k + 1) c.self.invariant.3 ∙ (sym (take_outs _ _ c.args.worker c.in-Some.node may) ∙ sym (ap out_count nodes)),
@@ -144,8 +141,8 @@ returns-clause-step c =
     let lt : c.in-Some.node < length c.deref.result.now = slice_get_within c.deref.result.now c.in-Some.node r.it r.is_there in
     let nodes = written_out c.self.inside.nodes.items c.in-Some.node c.args.worker c.index_mut.result.now (omega arith) c.index_mut.ensures.value in
     let size = c.requires.same_n ∙ sym (ap (λ (v : CoreFields). v.problem.weights.size) c.self.view_is) in
-    let ticket = ticket_is (the_view c.self.inside) c.in-Some.node _ c.deref-2.result.now _ _ c.fill_ticket.new.into c.deref-2.ensures.value size best c.read.ensures c.fill_ticket.ensures.ticket in
-    rw (← c.self.view_is) (take_step (the_view c.self.inside) _ c.args.worker c.in-Some.node c.fill_ticket.new.into may (take_view _ c.args.worker c.in-Some.node _ _ nodes c.put_last.ensures.items) ticket)
+    let ticket = ticket_is (the_view c.self.inside) c.in-Some.node _ c.deref-2.result.now _ _ c.write_ticket.new.into c.deref-2.ensures.value size best refl c.write_ticket.ensures in
+    rw (← c.self.view_is) (take_step (the_view c.self.inside) _ c.args.worker c.in-Some.node c.write_ticket.new.into may (take_view _ c.args.worker c.in-Some.node _ _ nodes c.put_last.ensures.items) ticket)
 
 pub returns-clause-on_node : goal.returns-clause-on_node
 returns-clause-on_node c =
@@ -157,7 +154,7 @@ returns-clause-on_node c =
     let inside : c.in-Some.node < length c.self.inside.nodes.items = omega arith in
     let nodes = written_out c.self.inside.nodes.items c.in-Some.node c.args.worker c.index_mut.result.now inside c.index_mut.ensures.value in
     let size = c.requires.same_n ∙ sym (ap (λ (v : CoreFields). v.problem.weights.size) c.self.view_is) in
-    let ticket = ticket_is (the_view c.self.inside) c.in-Some.node _ c.deref-2.result.now _ _ c.fill_ticket.new.into c.deref-2.ensures.value size best c.read.ensures c.fill_ticket.ensures.ticket in
+    let ticket = ticket_is (the_view c.self.inside) c.in-Some.node _ c.deref-2.result.now _ _ c.write_ticket.new.into c.deref-2.ensures.value size best refl c.write_ticket.ensures in
     let view = take_view (the_view c.self.inside) c.args.worker c.in-Some.node _ _ nodes c.put_last.ensures.items in
-    rw (← c.self.view_is) (take_on_node (the_view c.self.inside) _ c.args.worker c.in-Some.node c.fill_ticket.new.into c.self.invariant.0 c.self.invariant.1 c.self.invariant.4.book inside view ticket
+    rw (← c.self.view_is) (take_on_node (the_view c.self.inside) _ c.args.worker c.in-Some.node c.write_ticket.new.into c.self.invariant.0 c.self.invariant.1 c.self.invariant.4.book inside view ticket
     (first_in (the_view c.self.inside).state c.in-Some.node c.deref.result.now _ c.deref.ensures.value best c.in-Some.ensures.found))

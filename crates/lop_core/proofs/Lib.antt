@@ -24,3 +24,5 @@ pub mod DoneNodes
 pub mod JudgeLemmas
 pub mod Monotone
 pub mod Alone
+pub mod Workers
+pub mod StandingRecords

@@ -28,14 +28,18 @@ pub record IsAttained (C : Matrix) (value : ℤ) : Type 0 where
 abbrev pub replay : Problem → List Entry → SearchState
 replay problem journal = fold after (root_state problem) journal
 
+-- the worker whose entry it is
+abbrev pub worker_of : Entry → ℕ
+worker_of (Take who node) = who
+worker_of (Report who node bound pair value room) = who
+
 -- whether the entry is of the worker
 abbrev pub is_of : ℕ → Entry → Bool
-is_of worker (Take who node) = who == worker
-is_of worker (Report who node bound pair value room) = who == worker
+is_of worker entry = worker_of entry == worker
 
 -- the entries of a worker
 abbrev pub entries_of : ℕ → List Entry → List Entry
-entries_of worker journal = filter (is_of worker) journal
+entries_of worker journal = filter (λ e. worker_of e == worker) journal
 
 abbrev pub takes : ℕ → Entry → Bool
 takes node (Take who taken) = taken == node

@@ -8,3 +8,4 @@ pub mod Journal
 pub mod Core
 pub mod Outcome
 pub mod AllOrders
+pub mod Workers

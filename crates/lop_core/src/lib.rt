@@ -2,6 +2,7 @@
 #![tactic(auto)]
 
 mod candidates;
+mod crossing;
 mod cut_index;
 mod journal;
 mod node;

@@ -8,10 +8,11 @@ ghost use Rattle.lop_leaf.specs.Bound.{CertifiesUnder};
 ghost use Rattle.lop_leaf.specs.Packing.{packing_bound};
 ghost use Rattle.lop_leaf.specs.Record.{IsMultiplier};
 ghost use Rattle.lop_core.specs.declared.records.NumberedTerm.{NumberedTerm};
-ghost use Rattle.lop_core.specs.Tree.{IsCoveredOnce, node_at, path_of};
+ghost use Rattle.lop_core.specs.Tree.{IsCoveredOnce, node_at, out_count, path_of};
 ghost use Rattle.lop_core.specs.Machine.{IsLive, IsOutTo, live_count, ready_count, state_bound};
 ghost use Rattle.lop_core.specs.Journal.{HasTake, HasReport, entries_of, AreCounted};
 ghost use Rattle.lop_core.specs.AllOrders.{factorial};
+ghost use Rattle.lop_core.specs.Workers.{IsInRange};
 ghost use Rattle.lop_core.specs.Core.{CoreFields, HasHistory, IsTake, OnNode, IsReport, IsSoundReport, AreRecorded, prepared, view_of};
 ghost use Rattle.lop_core.specs.Records.{HaveTermsWithin, IsNodeRecord, IsRecordBook, cut_at, number_at, record_at, scaled_of, term_room};
 
@@ -201,7 +202,9 @@ impl Core {
         ensures value { result ≡ self.now.state.best }
         ensures from_start { self.now.problem.start ≤ℤ result }
         ensures history { HasHistory self.now }
+        ensures range { IsInRange result }
     {
+        let _n = self.weights.n();
         self.best
     }
 
@@ -223,7 +226,9 @@ impl Core {
         ensures packed_closed { ((node : ℕ) → ¬ (IsLive self.now.state.nodes self.now.state.best node)) → result ≤ℤ packing_bound self.now.problem.weights [] }
         ensures bounds { (order : List ℕ) → IsOrder self.now.problem.weights.size order → weight self.now.problem.weights order ≤ℤ result }
         ensures at_least_best { self.now.state.best ≤ℤ result }
+        ensures range { IsInRange result }
     {
+        let _n = self.weights.n();
         greatest_bound(&self.nodes, self.best)
     }
 
@@ -342,6 +347,7 @@ impl Core {
         ensures cover { (order : List ℕ) → IsOrder self.now.problem.weights.size order → IsCoveredOnce self.now.state.nodes order }
         ensures out { (worker : ℕ) (node : ℕ) → IsOutTo self.now.state worker node ↔ (HasTake node (entries_of worker self.now.journal) × ¬ (HasReport node (entries_of worker self.now.journal))) }
         ensures counts { AreCounted self.now.problem self.now.state self.now.journal }
+        ensures none_out { ((worker node : ℕ) → HasTake node (entries_of worker self.now.journal) → HasReport node (entries_of worker self.now.journal)) → out_count self.now.state.nodes ≡ 0 }
     {
         &self.journal
     }

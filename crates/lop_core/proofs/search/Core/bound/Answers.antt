@@ -3,6 +3,7 @@ use Rattle.std.proofs.lemmas.Int.{to_z-of_z}
 use mir.Syntax.{w128}
 use Rattle.lop_core.specs.contracts.search.Core.{the_view}
 use Rattle.lop_core.proofs.Replay.{raised-le}
+use Rattle.lop_core.proofs.Workers.{bound_in_range}
 use Rattle.lop_core.proofs.Monotone.{core_from_root, core_packed, core_packed_closed}
 use Rattle.lop_core.proofs.Alone.{bound_closed}
 use Rattle.lop_core.proofs.CoreLemmas.{bound_found, core_bound}
@@ -42,3 +43,10 @@ returns-clause-packed_closed c =
     let g : FitsSigned w128 c.greatest_bound.result = search rules in
     let e = bound_found (the_view c.self.inside).state c.deref.result.now _ c.greatest_bound.result _ c.deref.ensures.value (to_z-of_z w128 c.self.inside.best f) (to_z-of_z w128 c.greatest_bound.result g) c.greatest_bound.ensures in
     rw (← c.self.view_is, e) (λ none. core_packed_closed (the_view c.self.inside) c.self.invariant.0 (bound_closed (the_view c.self.inside).state none))
+
+pub returns-clause-range : goal.returns-clause-range
+returns-clause-range c =
+    let f : FitsSigned w128 c.self.inside.best = search rules in
+    let g : FitsSigned w128 c.greatest_bound.result = search rules in
+    let e = bound_found (the_view c.self.inside).state c.deref.result.now _ c.greatest_bound.result _ c.deref.ensures.value (to_z-of_z w128 c.self.inside.best f) (to_z-of_z w128 c.greatest_bound.result g) c.greatest_bound.ensures in
+    rw e (bound_in_range (the_view c.self.inside) c.self.invariant.0 c.n-n.ensures.weights)

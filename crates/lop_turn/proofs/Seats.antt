@@ -222,6 +222,7 @@ module _ {T E : Type 0} (history : T → List E) (worker : E → ℕ) (score : T
   -- what the first pass knows of the value at the close
   pub record Closes (v : View E) (value : T) : Type 0 where
     pub sees : StartsWith (history value) v.seen
+    pub opens : StartsWith (history value) v.opening
     pub fixed_is : fixed value ≡ v.fixed
     pub floor : v.floor ≤ℤ score value
     pub ended : (n : ℕ) (xs : List E) → list_at v.ended n ≡ Some xs → entries_by worker n (history value) ≡ xs
@@ -255,6 +256,7 @@ module _ {T E : Type 0} (history : T → List E) (worker : E → ℕ) (score : T
         f.4 0 (Some h.value) h.is,
         record {
           sees = subst (λ (x : List E). StartsWith x v.seen) (sym h.history_is) mine.sees;
+          opens = subst (λ (x : List E). StartsWith (history h.value) x) (sym mine.opening) (subst (λ (x : List E). StartsWith x c.opening) (sym h.history_is) k.begins);
           fixed_is = h.fixed_is ∙ sym mine.fixed;
           floor = subst (λ (x : ℤ). v.floor ≤ℤ x) (sym h.score_is) (le_trans_ℤ v.floor (mark_of mark) c.score mine.floor k.marked);
           ended = λ n ys e. ap (entries_by worker n) h.history_is ∙ k.ends n ys (ap (λ (x : List (ℕ × List E)). list_at x n) (sym lists.1) ∙ e);

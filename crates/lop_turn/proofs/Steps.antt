@@ -160,6 +160,7 @@ module _ {T E : Type 0} (history : T → List E) (worker : E → ℕ) (score : T
             value = h.value;
             seat = refl;
             sees = subst (λ (x : List E). StartsWith x v.seen) (sym h.history_is) mine.sees;
+            opens = subst (λ (x : List E). StartsWith (history h.value) x) (sym mine.opening) (subst (λ (x : List E). StartsWith x c.opening) (sym h.history_is) k.begins);
             mine = mine.mine ∙ ap (entries_by worker v.number) (sym h.history_is);
             fixed_is = mine.fixed ∙ sym h.fixed_is;
             floor = subst (λ (x : ℤ). v.floor ≤ℤ x) (sym h.score_is) (le_trans_ℤ v.floor (mark_of mark) c.score mine.floor k.marked);

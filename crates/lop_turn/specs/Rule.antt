@@ -79,6 +79,7 @@ module _ {T E : Type 0} (history : T → List E) (worker : E → ℕ) (score : T
     pub value : T
     pub seat : n ≡ (after_take m.0 (history value) (score value), (0, Some value) ∷ m.1)
     pub sees : StartsWith (history value) m.0.seen
+    pub opens : StartsWith (history value) m.0.opening
     pub mine : m.0.mine ≡ entries_by worker m.0.number (history value)
     pub fixed_is : m.0.fixed ≡ fixed value
     pub floor : m.0.floor ≤ℤ score value

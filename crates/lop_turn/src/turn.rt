@@ -144,8 +144,8 @@ impl<T: Kept> Turn<T> {
 
     /// Tries once to take the turn, and never waits. It is refused only where another pass holds it.
     ///
-    /// What is taken has a history that begins with all that this pass has seen, and among it just
-    /// the entries that this pass made. A refusal is noted in `away`. That any try succeeds isn't
+    /// What is taken has a history that begins with that at the opening and with all that this pass
+    /// has seen, and among it just the entries that this pass made. A refusal is noted in `away`. That any try succeeds isn't
     /// promised.
     pub fn try_take(&self, pass: &mut Pass<T>) -> Result<T, Held>
         requires turn { pass.old.turn ≡ self.now }
@@ -154,6 +154,7 @@ impl<T: Kept> Turn<T> {
         ensures taken { IfOk result (λ x.
             pass.new.view ≡ after_take pass.old.view (T.history x) (T.score x)) }
         ensures seen { IfOk result (λ x. StartsWith (T.history x) pass.old.view.seen) }
+        ensures opening { IfOk result (λ x. StartsWith (T.history x) pass.old.view.opening) }
         ensures mine { IfOk result (λ x.
             entries_by T.worker pass.old.view.number (T.history x) ≡ pass.old.view.mine) }
         ensures fixed { IfOk result (λ x. T.fixed x ≡ pass.old.view.fixed) }
@@ -223,6 +224,7 @@ impl<T: Kept> Turn<T> {
         requires joined { (n : ℕ) →
             Contains pass.view.split_off n → IsSome (list_at pass.view.ended n) }
         ensures seen { StartsWith (T.history result) pass.view.seen }
+        ensures opening { StartsWith (T.history result) pass.view.opening }
         ensures fixed { T.fixed result ≡ pass.view.fixed }
         ensures floor { pass.view.floor ≤ℤ T.score result }
         ensures ended { (n : ℕ) (xs : List T.Entry) →

@@ -11,4 +11,4 @@ pub returns : goal.returns
 returns g c =
     let t = finds g.T.Kept.history g.T.Kept.worker g.T.Kept.score g.T.Kept.fixed _ _ c.args.pass.view _ _ c.take.result (ap (λ k. k.view) c.pass.view_is) c.requires.first.0 c.pass.invariant.1 c.requires.first.1 c.requires.joined c.close_with-closed.ensures.values.2 c.take.ensures.value in
     let all = finds_this g.T.Kept.history g.T.Kept.worker g.T.Kept.score g.T.Kept.fixed c.args.pass.view c.take.result c.unwrap-value.result t c.unwrap-value.ensures in
-    record { seen = all.sees; fixed = all.fixed_is; floor = all.floor; ended = all.ended; mine = all.mine; others = all.never }
+    record { seen = all.sees; opening = all.opens; fixed = all.fixed_is; floor = all.floor; ended = all.ended; mine = all.mine; others = all.never }

@@ -1,9 +1,9 @@
 -- What a LOLIB text means.
 use Rattle.std.specs.Prelude.{◌≡◌, ℕ, ◌+◌, ◌-◌, ◌*◌, ◌^◌, ◌||◌, nat_lt, List, [], ◌∷◌, length, map, take, drop, slice_index_or, ℤ, pos, int_lt, nat_abs, if◌then◌else◌, Result, Ok, Err}
 use Rattle.std.specs.List.{prefix_len}
-use Rattle.lop_desk.specs.Number.{whole_value}
+use Rattle.lop_desk.specs.Number.{is_whole_word, whole_value}
 use Rattle.lop_model.specs.Matrix.{matrix_of, absolute_total}
-use Rattle.lop_lolib.specs.Words.{is_separator, words_of, is_whole_word, is_number_word}
+use Rattle.lop_lolib.specs.Words.{is_separator, words_of, is_number_word}
 use Rattle.lop_lolib.specs.Title.{title_of, title_len}
 use Rattle.lop_lolib.specs.declared.lolib.LolibFile.{LolibFile}
 use Rattle.lop_lolib.specs.declared.refusal.LolibRefusal.{LolibRefusal}

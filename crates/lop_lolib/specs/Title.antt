@@ -1,7 +1,8 @@
 -- The title of a text, and where its numbers begin.
 use Rattle.std.specs.Prelude.{ℕ, ◌+◌, ◌-◌, ◌==◌, Bool, not, List, [], length, take, drop, if◌then◌else◌}
 use Rattle.std.specs.List.{prefix_len, position_or_len, suffix_len, list_any}
-use Rattle.lop_lolib.specs.Words.{is_separator, words_of, is_whole_word}
+use Rattle.lop_desk.specs.Number.{is_whole_word}
+use Rattle.lop_lolib.specs.Words.{is_separator, words_of}
 
 -- an LF, which ends a line
 abbrev pub is_line_end : ℕ → Bool

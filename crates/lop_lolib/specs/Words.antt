@@ -1,7 +1,7 @@
 -- Words of a text, and the numbers that they spell.
 use Rattle.std.specs.Prelude.{ℕ, ◌^◌, Bool, ◌&&◌, ◌||◌, ◌==◌, nat_lt, nat_le, List, length, filter, nat_abs}
 use Rattle.std.specs.List.{slice_split}
-use Rattle.lop_desk.specs.Number.{all_digits, unsigned_word, whole_value}
+use Rattle.lop_desk.specs.Number.{is_whole_word, whole_value}
 
 -- a space, a tab, a CR or an LF
 abbrev pub is_separator : ℕ → Bool
@@ -11,10 +11,6 @@ is_separator b = b == 32 || b == 9 || b == 13 || b == 10
 abbrev pub words_of : List ℕ → List (List ℕ)
 words_of bytes = filter (λ word. nat_lt 0 (length word)) (slice_split is_separator bytes)
 
--- an optional sign and one or more digits
-abbrev pub is_whole_word : List ℕ → Bool
-is_whole_word word = nat_lt 0 (length (unsigned_word word)) && all_digits (unsigned_word word)
-
--- an optional sign and one or more digits, which spell at most 10^18 in absolute value
+-- a whole number's spelling, of at most 10^18 in absolute value
 abbrev pub is_number_word : List ℕ → Bool
 is_number_word word = is_whole_word word && nat_le (nat_abs (whole_value word)) (10 ^ 18)

@@ -6,7 +6,8 @@ ghost use Rattle.lop_lolib.specs.Reading.{lolib_reading, titled, body_reading, w
 use crate::heading::heading_of;
 use crate::refusal::LolibRefusal;
 use crate::title::Title;
-use crate::words::{Words, blank_len, is_whole_word, number_of};
+use crate::words::{Words, blank_len, number_of};
+use lop_desk::is_whole;
 use lop_model::{Weights, WeightsFault};
 use std::alloc::Global;
 
@@ -99,7 +100,7 @@ fn read_entries(alloc: Global, words: &mut Words<'_>, n: u16) -> Result<Vec<i64>
 fn entry_refusal(index: u64, word: &[u8]) -> LolibRefusal
     ensures { result ≡ entry_refusal index word.now }
 {
-    if is_whole_word(word) {
+    if is_whole(word) {
         LolibRefusal::TooWide(index)
     } else {
         LolibRefusal::BadEntry(index)

@@ -3,9 +3,9 @@ ghost use Rattle.std.specs.Prelude.{◌≡◌, ◌≤◌, true, false, length, M
 ghost use Rattle.std.specs.List.{prefix_len, position_or_len};
 ghost use Rattle.std.specs.Iterator.{YieldsFirstBy, item_count};
 ghost use Rattle.lop_desk.specs.Number.{whole_value};
-ghost use Rattle.lop_lolib.specs.Words.{is_separator, is_whole_word, is_number_word, words_of};
+ghost use Rattle.lop_lolib.specs.Words.{is_separator, is_number_word, words_of};
 
-use lop_desk::{is_whole, whole_number};
+use lop_desk::whole_number;
 
 pub(crate) fn is_separator(byte: u8) -> bool
     ensures { result ≡ is_separator byte }
@@ -70,11 +70,4 @@ pub(crate) fn number_of(word: &[u8]) -> Option<i64>
 {
     let number = whole_number(word)?;
     Some(number as i64)
-}
-
-// Whether the word is an optional sign and one or more digits.
-pub(crate) fn is_whole_word(word: &[u8]) -> bool
-    ensures { result ≡ is_whole_word word.now }
-{
-    is_whole(word)
 }

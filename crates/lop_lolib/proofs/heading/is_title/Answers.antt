@@ -2,7 +2,8 @@ use Rattle.std.proofs.Common.{ℕ, List, Bor, not, refl, rules, tests}
 use Rattle.std.proofs.lemmas.Iterator.Search.{any_from_yields_List}
 use Rattle.std.proofs.lemmas.Iterator.Consumers.{YieldsList-from_first}
 use Rattle.lop_lolib.specs.declared.words.Words.{Words}
-use Rattle.lop_lolib.specs.Words.{words_of, is_whole_word}
+use Rattle.lop_desk.specs.Number.{is_whole_word}
+use Rattle.lop_lolib.specs.Words.{words_of}
 use Rattle.lop_lolib.proofs.heading.is_title.Goals as goal
 
 pub returns : goal.returns

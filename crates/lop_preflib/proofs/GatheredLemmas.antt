@@ -5,9 +5,9 @@ use Rattle.std.specs.Option.{option_map}
 use Rattle.std.proofs.lemmas.List.{append-nil, get_or-map, length-map, get_or-take, length-take-le}
 use Rattle.std.proofs.lemmas.List.Folds.{list_any_at}
 use Rattle.std.proofs.lemmas.Bool.Decides.{nat_tests}
-use Rattle.lop_desk.specs.Number.{digits_value}
+use Rattle.lop_desk.specs.Number.{digits_value, is_digit_word}
 use Rattle.lop_preflib.specs.First.{or_else}
-use Rattle.lop_preflib.specs.Text.{is_digit_word, is_number_to}
+use Rattle.lop_preflib.specs.Text.{is_number_to}
 use Rattle.lop_preflib.specs.Line.{has_colon, count_word, list_text, items_in, object_of, size_word_of}
 use Rattle.lop_preflib.specs.Names.{name_at}
 use Rattle.lop_preflib.specs.Kind.{Says, no_name}

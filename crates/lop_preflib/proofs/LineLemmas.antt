@@ -2,8 +2,8 @@
 use Rattle.std.proofs.Common.{◌≡◌, ℕ, ◌+◌, ◌≤◌, ◌==◌, Bool, true, false, not, ◌&&◌, List, [], ◌∷◌, length, Option, None, Some, refl, ◌∙◌, ap, cond, leb, arith}
 use Rattle.std.specs.List.{list_any, list_all, prefix_len, after_first}
 use Rattle.std.proofs.lemmas.Bool.Decides.{nat_tests}
-use Rattle.lop_desk.specs.Number.{digits_value}
-use Rattle.lop_preflib.specs.Text.{is_blank, is_digit_word, is_number_to, begins_with, trim}
+use Rattle.lop_desk.specs.Number.{digits_value, is_digit_word}
+use Rattle.lop_preflib.specs.Text.{is_blank, is_number_to, begins_with, trim}
 use Rattle.lop_preflib.specs.Line.{is_metadata, metadata_text, name_label, told_size, told_name, naming, number_word, is_colon}
 use Rattle.lop_preflib.specs.Kind.{Says, Tells, AreNames, IsTold, IsKind, no_name, only_name}
 use Rattle.lop_preflib.specs.declared.line.Line.{Line}

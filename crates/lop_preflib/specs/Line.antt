@@ -1,8 +1,8 @@
 -- What a line is, and its parts.
 use Rattle.std.specs.Prelude.{ℕ, ◌-◌, Bool, not, ◌&&◌, ◌==◌, List, length, drop, map, slice_index, codes, Option, None, Some, if◌then◌else◌}
 use Rattle.std.specs.List.{slice_split, list_any, list_all, before_first, after_first}
-use Rattle.lop_desk.specs.Number.{digits_value}
-use Rattle.lop_preflib.specs.Text.{is_blank, trim, is_digit_word, begins_with}
+use Rattle.lop_desk.specs.Number.{digits_value, is_digit_word}
+use Rattle.lop_preflib.specs.Text.{is_blank, trim, begins_with}
 
 -- the line begins with `#` (35)
 abbrev pub is_metadata : List ℕ → Bool

@@ -1,7 +1,7 @@
 -- Lines, blanks, and digit words.
-use Rattle.std.specs.Prelude.{ℕ, ◌-◌, Bool, ◌&&◌, ◌||◌, ◌==◌, nat_lt, nat_le, nat_eq, List, [], ◌∷◌, length, take, drop, map, slice_index, if◌then◌else◌}
+use Rattle.std.specs.Prelude.{ℕ, ◌-◌, Bool, ◌&&◌, ◌||◌, ◌==◌, nat_le, nat_eq, List, [], ◌∷◌, length, take, drop, map, slice_index, if◌then◌else◌}
 use Rattle.std.specs.List.{slice_split, prefix_len, suffix_len, starts_with}
-use Rattle.lop_desk.specs.Number.{all_digits, digits_value}
+use Rattle.lop_desk.specs.Number.{digits_value, is_digit_word}
 
 abbrev pub is_lf : ℕ → Bool
 is_lf b = b == 10
@@ -34,10 +34,6 @@ without_back bytes = take (length bytes - suffix_len is_blank bytes) bytes
 -- the bytes without the blanks at both ends
 abbrev pub trim : List ℕ → List ℕ
 trim bytes = without_back (without_front bytes)
-
--- one or more digits
-abbrev pub is_digit_word : List ℕ → Bool
-is_digit_word word = nat_lt 0 (length word) && all_digits word
 
 -- a digit word with a value from 1 to `most`
 abbrev pub is_number_to : ℕ → List ℕ → Bool

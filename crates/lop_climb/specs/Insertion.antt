@@ -1,5 +1,5 @@
 -- Local search by insertions.
-use Rattle.std.specs.Prelude.{◌≡◌, ℕ, suc, ◌<◌, ◌≤◌, List, length, ℤ, ◌-ℤ◌, ◌<ℤ◌, ◌≤ℤ◌}
+use Rattle.std.specs.Prelude.{◌≡◌, ℕ, suc, ◌<◌, ◌≤◌, ◌*◌, List, length, ℤ, ◌-ℤ◌, ◌<ℤ◌, ◌≤ℤ◌}
 use Rattle.lop_model.specs.Order.{after_insertion}
 use Rattle.lop_model.specs.Matrix.{Matrix, weight}
 
@@ -18,6 +18,13 @@ pub record IsBestMove (C : Matrix) (s : List ℕ) (f t : ℕ) : Type 0 where
 pub data IsClimb (C : Matrix) (s : List ℕ) : ℕ → List ℕ → Type 0 where
   no_move : IsClimb C s 0 s
   one_more : {m : ℕ} {u : List ℕ} (f t : ℕ) → IsClimb C s m u → IsBestMove C u f t → IsClimb C s (suc m) (after_insertion u f t)
+
+-- a climb from s leads to t: insertions that each gain, at most 10 n² of them; after fewer no insertion betters t
+pub record IsClimbedFrom (C : Matrix) (s t : List ℕ) : Type 0 where
+  pub moves : ℕ
+  pub climb : IsClimb C s moves t
+  pub limit : moves ≤ 10 * C.size * C.size
+  pub settled : moves < 10 * C.size * C.size → IsInsertionOptimum C t
 
 -- what the weight gains where the object at place f is put in at place t
 abbrev pub gain_of : Matrix → List ℕ → ℕ → ℕ → ℤ

@@ -3,10 +3,8 @@
 
 mod ascent;
 mod becker;
+mod crossing;
 mod room;
 
 pub use ascent::Climbed;
 pub use room::{ClimbRoom, climb, start_order};
-
-#[cfg(test)]
-mod tests;

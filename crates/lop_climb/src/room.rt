@@ -3,7 +3,7 @@ ghost use Rattle.std.specs.List.{range_with_len};
 ghost use Rattle.lop_model.specs.Order.{IsOrder};
 ghost use Rattle.lop_model.specs.Matrix.{weight};
 ghost use Rattle.lop_climb.specs.StartOrder.{IsBeckerOrder};
-ghost use Rattle.lop_climb.specs.Insertion.{IsInsertionOptimum, IsClimb};
+ghost use Rattle.lop_climb.specs.Insertion.{IsInsertionOptimum, IsClimb, IsClimbedFrom};
 
 use crate::ascent::{Climbed, ascend};
 use crate::becker::put_in_becker_order;
@@ -78,6 +78,7 @@ pub fn climb(weights: &Weights, room: &mut ClimbRoom) -> Climbed
     ensures value { result.value ≡ weight weights.now room.new }
     ensures gains { (weight weights.now room.old +ℤ pos result.moves) ≤ℤ result.value }
     ensures moves { IsClimb weights.now room.old result.moves room.new }
+    ensures climbed { IsClimbedFrom weights.now room.old room.new }
     ensures limit { result.moves ≤ 10 * weights.now.size * weights.now.size }
     ensures stopped { (result.settled ≡ false) ↔ (result.moves ≡ 10 * weights.now.size * weights.now.size) }
     ensures settled { IsTrue result.settled → IsInsertionOptimum weights.now room.new }

@@ -6,8 +6,8 @@ use Rattle.std.proofs.Math.Seq.{take-append_seam, drop-append_seam}
 use Rattle.std.proofs.lemmas.Bool.{and_parts, and_from, ne_eqb, le-leb, lt-ltb, leb-true}
 use Rattle.std.proofs.lemmas.Fmt.{digits_decimal, digits_value-decimal, decimal_nonempty}
 use Rattle.std.proofs.lemmas.Str.Parse.{IsNumeralModel, numerals_by_fold}
-use Rattle.lop_desk.specs.Number.{is_digit, all_digits, value_from, digits_value, unsigned_word, whole_value}
-use Rattle.lop_lolib.specs.Words.{is_separator, words_of, is_whole_word, is_number_word}
+use Rattle.lop_desk.specs.Number.{is_digit, all_digits, value_from, digits_value, unsigned_word, whole_value, is_whole_word}
+use Rattle.lop_lolib.specs.Words.{is_separator, words_of, is_number_word}
 use Rattle.lop_lolib.proofs.WordsLemmas.{words_of-separator, words_of-word}
 
 numerals : IsNumeralModel (λ ds. all_digits ds ≡ true) digits_value

@@ -9,10 +9,10 @@ use Rattle.std.proofs.lemmas.Int.{ints}
 use Rattle.std.proofs.lemmas.List.{length-map, map-append, map-id, take_all, drop_all, get_or_default}
 use Rattle.std.proofs.lemmas.List.Folds.{list_all-append}
 use Rattle.std.proofs.lemmas.List.Sums.{list_all-from_AllPass}
-use Rattle.lop_desk.specs.Number.{whole_value}
+use Rattle.lop_desk.specs.Number.{whole_value, is_whole_word}
 use Rattle.lop_model.specs.Matrix.{Matrix, IsWeights, matrix_of, entry, pair_absolute, absolute_total}
 use Rattle.lop_model.proofs.SumLemmas.{pair_sum-le, pair_sum-one}
-use Rattle.lop_lolib.specs.Words.{is_separator, words_of, is_whole_word, is_number_word}
+use Rattle.lop_lolib.specs.Words.{is_separator, words_of, is_number_word}
 use Rattle.lop_lolib.specs.Title.{first_line, from_first_word, to_line_end, is_line_end, is_title, to_last_word}
 use Rattle.lop_lolib.specs.Reading.{lolib_reading, titled, body_reading, words_reading, size_reading, rows_reading}
 use Rattle.lop_lolib.specs.declared.refusal.LolibRefusal.TheVariants.{SizeRange, TooHeavy, BadSize}

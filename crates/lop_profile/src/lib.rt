@@ -3,7 +3,4 @@
 
 mod cells;
 mod profile;
-#[cfg(test)]
-mod tests;
-
 pub use profile::{ProfileFault, pair_weights, voters};

@@ -6,6 +6,3 @@ mod weight;
 
 pub use insertion::{insert, insertion_gain};
 pub use weight::value;
-
-#[cfg(test)]
-mod tests;

@@ -2,10 +2,7 @@
 ghost use Rattle.std.specs.Prelude.{◌≡◌, ◌≤◌, ◌^◌, unsigned_abs, IfSome};
 ghost use Rattle.std.specs.Option.{option_copied};
 
-use crate::{
-    Answer, Linearity, disagreements, linearity, print_accepted, print_answer, print_generated,
-    print_value,
-};
+use crate::{Answer, print_accepted, print_answer, print_generated, print_value};
 use lop_desk::{MemoryDesk, TextRoom};
 use lop_model::{Order, Weights};
 use lop_preflib::{Profile, read_preflib};
@@ -149,21 +146,6 @@ fn values(rt: HostRuntime) -> Result<(), Fail> {
     let weights = pair_weights(alloc, &profile)?;
     let text = "objects 3\nvalue 17\ntotal 27\nlinearity 0.6296\nvoters 9\ndisagreements 10\n";
     weighs(&rt, alloc, 17, &weights, Some(&profile), text)
-}
-
-#[test]
-fn figures(rt: HostRuntime) {
-    assert_eq!(rt;
-        linearity(500_000_000_000_000_000, 1_000_000_000_000_000_000),
-        Linearity::Parts(5000)
-    );
-    assert_eq!(rt; linearity(4, 6), Linearity::Parts(6666));
-    assert_eq!(rt; linearity(14, 18), Linearity::Parts(7777));
-    assert_eq!(rt; linearity(-3, -8), Linearity::None);
-    assert_eq!(rt; linearity(-3, 8), Linearity::None);
-    assert_eq!(rt; linearity(0, 0), Linearity::None);
-    assert_eq!(rt; disagreements(17, 27), 10);
-    assert_eq!(rt; disagreements(-3, -8), -5);
 }
 
 #[test]

@@ -1,4 +1,4 @@
-ghost use Rattle.std.specs.Prelude.{◌≡◌, ◌<◌, ◌+◌, [], ◌∷◌, ◌++◌, length, slice_index_or, IfOk};
+ghost use Rattle.std.specs.Prelude.{◌≡◌, ◌<◌, ◌+◌, ◌^◌, [], ◌∷◌, ◌++◌, length, slice_index_or, IfOk};
 ghost use Rattle.lop_cuts.specs.Kind.{IsCut};
 
 use crate::Cut;
@@ -44,7 +44,8 @@ impl CutList {
 
     /// How many more cuts there is room for.
     pub fn free(&self) -> usize
-        ensures { result + length self.now.cuts ≡ self.now.room }
+        ensures free { result + length self.now.cuts ≡ self.now.room }
+        ensures fits { self.now.room < 2 ^ 64 }
     {
         self.room - self.cuts.len()
     }

@@ -1,0 +1,2 @@
+pub mod Dicycles
+pub mod Search

@@ -3,7 +3,6 @@ pub mod WalkLemmas
 pub mod LeafLemmas
 pub mod Written
 pub mod Walked
-pub mod ClosureBelow
 pub mod TreeHolds
 pub mod CutLines
 pub mod Pieces

@@ -15,6 +15,7 @@ use Rattle.lop_cuts.specs.declared.kind.CutKind.{CutKind}
 use Rattle.lop_cuts.specs.declared.kind.CutKind.TheVariants.{Dicycle}
 use Rattle.lop_cuts.specs.Kind.{IsCut, FitsCut}
 use Rattle.lop_cuts.specs.Lagrangian.{Term, Certifies}
+use Rattle.lop_cuts.specs.Certifying.{CertifiesUnder}
 use Rattle.lop_leaf.proofs.QuotientLemmas.{scaled-le}
 use Rattle.lop_core.specs.declared.node.SearchNode.{SearchNode}
 use Rattle.lop_core.specs.declared.records.NumberedTerm.{NumberedTerm}
@@ -25,14 +26,12 @@ use Rattle.lop_core.specs.Core.{CoreFields, HasHistory, AreRecorded}
 use Rattle.lop_core.proofs.Replay.{raised-le, raised-each, sound_replay}
 use Rattle.lop_core.proofs.Linked.{core_linked, path_of_root}
 use Rattle.lop_core.proofs.Monotone.{core_from_root}
-use Rattle.lop_certtext.specs.Chains.{closure_below}
 use Rattle.lop_certtext.specs.CutLine.{IsShapedCut}
 use Rattle.lop_certtext.specs.LeafLine.{terms_in, cut_at as cut_numbered}
 use Rattle.lop_certtext.specs.Tree.{Tree, IsLeaf, IsTree}
 use Rattle.lop_certtext.specs.Certificate.{Certificate, IsTreeCertificate}
 use Rattle.lop_certwrite.specs.CoreTree.{NodeTree, one_node, two_below, IsSplitInto, IsTreeAt, leaf_of_record, certificate_tree, IsCertificateOf}
 use Rattle.lop_certwrite.proofs.LeafLemmas.{numbered, record_few, record_rising, record_small}
-use Rattle.lop_certwrite.proofs.ClosureBelow.{IsClosure-closure_below}
 
 -- the cut of a number that is listed doesn't hang on what stands past the end
 same_cut : (cuts : List CutKind) (i : ℕ) (d e : CutKind) → i < length cuts → get_or cuts i d ≡ get_or cuts i e
@@ -56,6 +55,9 @@ certifies_more : (C : Matrix) (G : List Pair) (scale : ℕ) (terms : List Term) 
 certifies_more C G scale terms b top more h =
     let up : (pos scale *ℤ (b +ℤ pos 1)) ≤ℤ (pos scale *ℤ (top +ℤ pos 1)) = scaled-le scale (b +ℤ pos 1) (top +ℤ pos 1) (omega (arith, ints)) in
     omega (arith, ints)
+
+under_more : (C : Matrix) (path : List Pair) (scale : ℕ) (terms : List Term) (b top : ℤ) → b ≤ℤ top → CertifiesUnder C path scale terms b → CertifiesUnder C path scale terms top
+under_more C path scale terms b top more h = record { each = λ G closure. certifies_more C G scale terms b top more (h.each G closure) }
 
 -- the last pair of a branching path is undecided under those before it
 last_undecided : (n : ℕ) (path : List Pair) (p : Pair) → IsBranchingPath n (path ++ p ∷ []) → IsUndecided n path p.before p.after
@@ -115,15 +117,14 @@ module _ (core : CoreFields) (history : HasHistory core) (recorded : AreRecorded
       let inside : i < length nodes = slice_get_within nodes i o.it o.is_there in
       let r : NodeRecord = record_at core.book.records i in
       let is : IsNodeRecord (length core.book.cuts) (record_at core.book.records i) = All-get_or (IsNodeRecord (length core.book.cuts)) core.book.records i _ (omega (arith, recorded.same_length)) book.each in
-      let own = (recorded.certified i inside).each (closure_below C.size (path_of nodes i)) (IsClosure-closure_below C.size (path_of nodes i) (branching i inside)) in
-      let top = certifies_more C (closure_below C.size (path_of nodes i)) (record_at core.book.records i).scale (terms_of core.book.cuts (record_at core.book.records i).terms) (node_at nodes i).bound (state_bound core.state) (open_bound i o) own in
+      let top = under_more C (path_of nodes i) (record_at core.book.records i).scale (terms_of core.book.cuts (record_at core.book.records i).terms) (node_at nodes i).bound (state_bound core.state) (open_bound i o) (recorded.certified i inside) in
       record {
         positive = is.positive;
         within_limit = is.within_limit;
         few = record_few (length core.book.cuts) (record_at core.book.records i) is;
         rising = record_rising (length core.book.cuts) (record_at core.book.records i) is;
         multipliers = record_small (length core.book.cuts) (record_at core.book.records i) is;
-        certified = subst (λ (ts : List Term). Certifies C (closure_below C.size (path_of nodes i)) (record_at core.book.records i).scale ts (state_bound core.state)) (sym (same_terms core.book.cuts (record_at core.book.records i).terms is.listed)) top;
+        certified = subst (λ (ts : List Term). CertifiesUnder C (path_of nodes i) (record_at core.book.records i).scale ts (state_bound core.state)) (sym (same_terms core.book.cuts (record_at core.book.records i).terms is.listed)) top;
       }
 
   -- the paths of a split node's children

@@ -17,7 +17,7 @@ use Rattle.lop_desk.proofs.Worlds.{bytes_from_moved}
 use Rattle.lop_certtext.specs.Answer.{TextLine, ended_line, unended_line, long_line, long_file, limited, lines_from, CheckAnswer}
 use Rattle.lop_check.specs.declared.verdict.Verdict.{Verdict}
 use Rattle.lop_check.specs.declared.verdict.Verdict.TheVariants as verdict
-use Rattle.lop_check.specs.Verdict.{IsVerdict}
+use Rattle.lop_check.specs.Verdict.{Says}
 use Rattle.lop_check.specs.Walk.{line_start, lines_to_come, Answers, Advances}
 
 -- ---- bytes cut at LFs
@@ -215,7 +215,7 @@ head_ended None new before now size is holds moved grows limit step v later = tt
 head_ended (Some w) new before now size is holds moved grows limit step v later = λ placed.
     let first = ended_first w before now placed grows limit size is holds.0 holds.1 in
     let there = subst (λ t. Answers t now (λ rest. step (ended_line now.line ∷ rest)) v) moved later in
-    subst (λ l. IsVerdict (step l) v) (sym first.0) (there first.1)
+    subst (λ l. Says (step l) v) (sym first.0) (there first.1)
 
 -- a line that was read moves the reader on
 pub head_advances : (old : Option World) (before now : LineState) (size : ℕ) → IsLine old before now (line.Text size true) → HoldsLine now (line.Text size true) → before.count ≤ now.count → now.count ≤ 2 ^ 40 → IfSome old (λ _. Advances before now)
@@ -225,29 +225,29 @@ head_advances (Some w) before now size is holds grows limit = λ placed.
 
 pub head_unended : (old : Option World) (before now : LineState) (size : ℕ) → IsLine old before now (line.Text size false) → HoldsLine now (line.Text size false)
     → before.count ≤ now.count → now.count ≤ 2 ^ 40
-    → (step : List TextLine → CheckAnswer) (v : Verdict) → IsVerdict (step (unended_line now.line ∷ [])) v → Answers old before step v
+    → (step : List TextLine → CheckAnswer) (v : Verdict) → Says (step (unended_line now.line ∷ [])) v → Answers old before step v
 head_unended None before now size is holds grows limit step v at = tt
 head_unended (Some w) before now size is holds grows limit step v at = λ placed.
-    subst (λ l. IsVerdict (step l) v) (sym (unended_first w before now placed grows limit size is holds.0 holds.1)) at
+    subst (λ l. Says (step l) v) (sym (unended_first w before now placed grows limit size is holds.0 holds.1)) at
 
-pub head_end : (old : Option World) (before now : LineState) → IsLine old before now line.End → (step : List TextLine → CheckAnswer) (v : Verdict) → IsVerdict (step []) v → Answers old before step v
+pub head_end : (old : Option World) (before now : LineState) → IsLine old before now line.End → (step : List TextLine → CheckAnswer) (v : Verdict) → Says (step []) v → Answers old before step v
 head_end None before now is step v at = tt
 head_end (Some w) before now is step v at = λ placed.
-    subst (λ l. IsVerdict (step (lines_from (line_start before) (slice_split is_lf l))) v) (sym is.none) at
+    subst (λ l. Says (step (lines_from (line_start before) (slice_split is_lf l))) v) (sym is.none) at
 
 pub head_long_line : (old : Option World) (before : LineState) (a b : ℕ) → LineCause old before a b stop.LineTooLong → before.count ≤ 2 ^ 40
-    → (step : List TextLine → CheckAnswer) (v : Verdict) → ((rest : List TextLine) → IsVerdict (step (long_line ∷ rest)) v) → Answers old before step v
+    → (step : List TextLine → CheckAnswer) (v : Verdict) → ((rest : List TextLine) → Says (step (long_line ∷ rest)) v) → Answers old before step v
 head_long_line None before a b is limit step v at = tt
 head_long_line (Some w) before a b is limit step v at = λ placed.
     let first = long_first (line_start before) (to_come w before) is.no_lf is.there (omega (arith, is.within, placed, limit)) in
-    subst (λ l. IsVerdict (step l) v) (sym first.1) (at first.0)
+    subst (λ l. Says (step l) v) (sym first.1) (at first.0)
 
 pub head_long_file : (old : Option World) (before : LineState) (a b : ℕ) → LineCause old before a b stop.TooLong → before.count ≤ 2 ^ 40
-    → (step : List TextLine → CheckAnswer) (v : Verdict) → ((rest : List TextLine) → IsVerdict (step (long_file ∷ rest)) v) → Answers old before step v
+    → (step : List TextLine → CheckAnswer) (v : Verdict) → ((rest : List TextLine) → Says (step (long_file ∷ rest)) v) → Answers old before step v
 head_long_file None before a b is limit step v at = tt
 head_long_file (Some w) before a b is limit step v at = λ placed.
     let first = far_first (line_start before) (allowance before) (to_come w before) (omega (arith, placed, limit)) is.no_lf is.there is.room is.at_room in
-    subst (λ l. IsVerdict (step l) v) (sym first.1) (at first.0)
+    subst (λ l. Says (step l) v) (sym first.1) (at first.0)
 
 -- a read that failed says nothing of the text
 pub failed_says_nothing : (old : Option World) (before : LineState) (step : List TextLine → CheckAnswer) → Answers old before step verdict.Failed

@@ -1,11 +1,10 @@
 pub mod Heads
 pub mod Walk
 pub mod Objects
-pub mod TableLemmas
-pub mod LinkLemmas
+pub mod DepthLemmas
+pub mod TrailLemmas
 pub mod PathLemmas
 pub mod CutLines
-pub mod Cells
 pub mod Charging
 pub mod Reduced
 pub mod NodeLemmas

@@ -5,26 +5,18 @@ use Rattle.std.proofs.lemmas.Int.{ints}
 use Rattle.std.proofs.lemmas.List.{drop_all, take_all}
 use Rattle.lop_model.specs.declared.pair.Pair.{Pair}
 use Rattle.lop_model.specs.Matrix.{Matrix, weight}
-use Rattle.lop_model.specs.Fixings.{IsUndecided}
+use Rattle.lop_model.specs.Fixings.{IsClosure, IsUndecided}
 use Rattle.lop_cuts.specs.declared.kind.CutKind.{CutKind}
 use Rattle.lop_cuts.specs.Kind.{IsCut}
 use Rattle.lop_certtext.specs.declared.word.CertWord.TheVariants.{SplitLine}
-use Rattle.lop_certtext.specs.Chains.{reversed}
-use Rattle.lop_certtext.specs.LeafLine.{LeafTerms, are_rising, terms_of, is_leaf_row, leaf_of}
+use Rattle.lop_cuts.proofs.CertifiedPaths.{CertifiesUnder-one}
+use Rattle.lop_certtext.specs.Tree.{reversed}
+use Rattle.lop_certtext.specs.LeafLine.{LeafTerms, are_rising, terms_of, terms_in, is_leaf_row, leaf_of}
 use Rattle.lop_certtext.specs.Answer.{split_of, split_step, leaf_value, leaf_limit}
-use Rattle.lop_certtext.proofs.ChainLemmas.{extends_more, may_split-undecided}
-use Rattle.lop_certtext.proofs.NodeText.{line-split_of}
+use Rattle.lop_certtext.proofs.PathLemmas.{extends_more}
 use Rattle.lop_certtext.proofs.TreeBounds.{one_way, certified_bounds}
-use Rattle.lop_check.specs.Standing.{Standing, IsFreePair, IsCovered}
+use Rattle.lop_check.specs.Standing.{Standing, IsCovered}
 use Rattle.lop_check.specs.Nodes.{follows, StaysCovered, Passes}
-use Rattle.lop_check.proofs.PathLemmas.{IsFreePair-may_split}
-
--- what a vector holds after all of it was lent
-pub put_back : (new items : List ℕ) (len : ℕ) → length new ≡ length items → len ≡ length items → take len (new ++ drop (length new) items) ≡ new
-put_back new items len e f =
-    ap (λ back. take len (new ++ back)) (drop_all (length new) items (omega arith))
-    ∙ ap (take len) (append-nil new)
-    ∙ take_all len new (omega arith)
 
 -- ---- terms in turn
 
@@ -46,12 +38,7 @@ none_rising ns count last k l = ap (λ (xs : List ℤ). are_rising last count (t
 
 -- ---- splits
 
-pub free_from_split : (n : ℕ) (path : List Pair) (ns : List ℤ) (p : Pair) → split_of n path ns ≡ Some p → IsFreePair n path p
-free_from_split n path ns p e =
-    let u : IsUndecided n path p.before p.after = (line-split_of n path ns p e).undecided in
-    IsFreePair-may_split n path p u.first u.second (may_split-undecided n path p u)
-
-pub covered_split : (C : Matrix) (b : ℤ) (path : List Pair) (others : List (List Pair)) (p : Pair) → IsFreePair C.size path p → StaysCovered C b (path ∷ others) ((path ++ p ∷ []) ∷ (path ++ reversed p ∷ []) ∷ others)
+pub covered_split : (C : Matrix) (b : ℤ) (path : List Pair) (others : List (List Pair)) (p : Pair) → IsUndecided C.size path p.before p.after → StaysCovered C b (path ∷ others) ((path ++ p ∷ []) ∷ (path ++ reversed p ∷ []) ∷ others)
 covered_split C b path others p free s o h = elim h [
   | inl x ↦ elim (one_way C.size s p.before p.after o free.first free.second free.differ) [
     | inl before ↦ inl (extends_more s path p x before)
@@ -60,8 +47,8 @@ covered_split C b path others p free s o h = elim h [
   | inr rest ↦ inr (inr rest)
 ]
 
-pub split_passes : (C : Matrix) (cuts : List CutKind) (b : ℤ) (at : Standing) (number : ℕ) (ns : List ℤ) (p : Pair) → split_of C.size at.path ns ≡ Some p → Passes C cuts b at number SplitLine ns ((at.path ++ p ∷ []) ∷ (at.path ++ reversed p ∷ []) ∷ at.others)
-split_passes C cuts b at number ns p e next = ap (λ (o : Option Pair). split_step at.path at.others number o next) e
+pub split_passes : (C : Matrix) (cuts : List CutKind) (b : ℤ) (G : List Pair) (at : Standing) (number : ℕ) (ns : List ℤ) (p : Pair) → split_of C.size G ns ≡ Some p → Passes C cuts b G at number SplitLine ns ((at.path ++ p ∷ []) ∷ (at.path ++ reversed p ∷ []) ∷ at.others)
+split_passes C cuts b G at number ns p e next = ap (λ (o : Option Pair). split_step at.path at.others number o next) e
 
 -- ---- leaves
 
@@ -69,9 +56,9 @@ covered_low : (C : Matrix) (b : ℤ) (paths : List (List Pair)) (s : List ℕ) �
 covered_low C b [] s w = w
 covered_low C b (p ∷ ps) s w = inr (covered_low C b ps s w)
 
-pub covered_leaf : (C : Matrix) (cuts : List CutKind) (b : ℤ) (path : List Pair) (others : List (List Pair)) (l : LeafTerms) → All IsCut cuts → are_rising 0 (length cuts) l.terms ≡ true → leaf_value C cuts path l <ℤ leaf_limit l b → StaysCovered C b (path ∷ others) others
-covered_leaf C cuts b path others l right rising less s o h = elim h [
-  | inl x ↦ covered_low C b others s (certified_bounds C cuts b path l right rising less s o x)
+pub covered_leaf : (C : Matrix) (cuts : List CutKind) (b : ℤ) (path G : List Pair) (others : List (List Pair)) (l : LeafTerms) → All IsCut cuts → are_rising 0 (length cuts) l.terms ≡ true → IsClosure path G → leaf_value C cuts G l <ℤ leaf_limit l b → StaysCovered C b (path ∷ others) others
+covered_leaf C cuts b path G others l right rising closure less s o h = elim h [
+  | inl x ↦ covered_low C b others s (certified_bounds C cuts b path l right rising (CertifiesUnder-one C path G l.scale (terms_in cuts l.terms) b closure less) s o x)
   | inr rest ↦ rest
 ]
 

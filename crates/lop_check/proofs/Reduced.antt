@@ -9,11 +9,9 @@ use Rattle.lop_model.specs.Fixings.{has_pair}
 use Rattle.lop_model.specs.Bound.{pair_value}
 use Rattle.lop_model.proofs.SumLemmas.{pair_sum-same}
 use Rattle.lop_cuts.specs.Lagrangian.{Term, charge, right_sides, reduced_entry, lagrangian_value}
-use Rattle.lop_certtext.specs.Chains.{closure_below}
-use Rattle.lop_certtext.proofs.PairList.{has_pair-closure_below}
-use Rattle.lop_check.specs.Table.{at, IsTableOf}
-use Rattle.lop_check.specs.Charges.{HasCharges, table_entry, table_value}
-use Rattle.lop_check.proofs.Charging.{scaled_low, scaled_high}
+use Rattle.lop_cuts.specs.Charges.{HasCharges}
+use Rattle.lop_cuts.proofs.ChargeLemmas.{scaled_low, scaled_high}
+use Rattle.lop_check.specs.Charges.{table_entry}
 
 fits_within : (x : ℤ) → neg_ℤ (pos (2 ^ 80)) ≤ℤ x → x ≤ℤ pos (2 ^ 80) → FitsSigned w128 x
 fits_within (pos n) h k = omega (arith, ints)
@@ -55,21 +53,19 @@ computed s e S k fit_s fit_e narrow is limit charge =
       fits = fits_within (pos S *ℤ e -ℤ pos k) low high;
     }
 
--- ---- the table stands for the closure, and the charges for the terms
+-- ---- the charges stand for the terms
 
-same_choice : (f g f' g' : Bool) (x y x' y' : ℤ) → f ≡ f' → g ≡ g' → x ≡ x' → y ≡ y' → cond f x (cond g y (int_max x y)) ≡ cond f' x' (cond g' y' (int_max x' y'))
-same_choice f g f' g' x y x' y' a b c d = cc
-
-module _ (C : Matrix) (path : List Pair) (words : List ℕ) (scale : ℕ) (terms : List Term) (charges : List ℕ) (table : IsTableOf C.size words path) (has : HasCharges C.size terms charges) where
+module _ (C : Matrix) (G : List Pair) (scale : ℕ) (terms : List Term) (charges : List ℕ) (has : HasCharges C.size terms charges) where
   entry_is : (a b : ℕ) → a < C.size → b < C.size → table_entry C scale charges a b ≡ reduced_entry C scale terms a b
   entry_is a b l m = ap (λ (k : ℕ). pos scale *ℤ entry C a b -ℤ pos k) (has.each a b l m)
 
-  value_is : (i j : ℕ) → i < j → j < C.size → table_value C words scale charges i j ≡ pair_value (closure_below C.size path) (reduced_entry C scale terms) i j
+  same_choice : (f g : Bool) (x y x' y' : ℤ) → x ≡ x' → y ≡ y' → cond f x (cond g y (int_max x y)) ≡ cond f x' (cond g y' (int_max x' y'))
+  same_choice f g x y x' y' a b = cc
+
+  value_is : (i j : ℕ) → i < j → j < C.size → pair_value G (table_entry C scale charges) i j ≡ pair_value G (reduced_entry C scale terms) i j
   value_is i j l m =
       let k : i < C.size = omega arith in
-      same_choice (at words C.size i j) (at words C.size j i) (has_pair (closure_below C.size path) i j) (has_pair (closure_below C.size path) j i)
-      (table_entry C scale charges i j) (table_entry C scale charges j i) (reduced_entry C scale terms i j) (reduced_entry C scale terms j i)
-      (table.each i j k m ∙ sym (has_pair-closure_below C.size path i j k m)) (table.each j i m k ∙ sym (has_pair-closure_below C.size path j i m k)) (entry_is i j k m) (entry_is j i m k)
+      same_choice (has_pair G i j) (has_pair G j i) (table_entry C scale charges i j) (table_entry C scale charges j i) (reduced_entry C scale terms i j) (reduced_entry C scale terms j i) (entry_is i j k m) (entry_is j i m k)
 
-  pub whole_value : pos (right_sides terms) +ℤ pair_sum C.size (table_value C words scale charges) ≡ lagrangian_value C (closure_below C.size path) scale terms
-  whole_value = ap (λ (x : ℤ). pos (right_sides terms) +ℤ x) (pair_sum-same C.size (table_value C words scale charges) (pair_value (closure_below C.size path) (reduced_entry C scale terms)) value_is)
+  pub whole_value : pos (right_sides terms) +ℤ pair_sum C.size (pair_value G (table_entry C scale charges)) ≡ lagrangian_value C G scale terms
+  whole_value = ap (λ (x : ℤ). pos (right_sides terms) +ℤ x) (pair_sum-same C.size (pair_value G (table_entry C scale charges)) (pair_value G (reduced_entry C scale terms)) value_is)

@@ -10,10 +10,11 @@ use Rattle.lop_model.proofs.BoundLemmas.{IsLinearExtension-none}
 use Rattle.lop_cuts.specs.declared.kind.CutKind.{CutKind}
 use Rattle.lop_certtext.specs.declared.word.CertWord.{CertWord}
 use Rattle.lop_certtext.specs.Line.{CertLine}
+use Rattle.lop_model.specs.Closing.{closed}
 use Rattle.lop_certtext.specs.Answer.{TextLine, ended_line, unended_line, long_line, long_file, CheckAnswer, spelled, node_step, tree_step, end_step, cut_step, cuts_left_step}
 use Rattle.lop_check.specs.declared.verdict.Verdict.{Verdict}
 use Rattle.lop_check.specs.declared.verdict.Verdict.TheVariants as verdict
-use Rattle.lop_check.specs.Verdict.{IsVerdict, VerdictCause}
+use Rattle.lop_check.specs.Verdict.{Says, VerdictCause}
 use Rattle.lop_desk.specs.World.{with_opened}
 use Rattle.lop_desk.proofs.Printing.{rose_from}
 use Rattle.lop_check.specs.Standing.{Standing, pending, pending_if, IsCovered}
@@ -24,30 +25,30 @@ use Rattle.lop_check.proofs.Walk.{always, answers_alike}
 -- a line of the tree, and then the rest
 abbrev node_then : Matrix → List CutKind → ℤ → ℤ → List Pair → List (List Pair) → ℕ → CertLine → List TextLine → CheckAnswer
 node_then C cuts value bound path others number line rest =
-    node_step C cuts bound path others number line.word line.numbers (λ left. tree_step C cuts value bound left (number + 1) rest)
+    node_step C cuts bound (closed path) path others number line.word line.numbers (λ left. tree_step closed C cuts value bound left (number + 1) rest)
 
-tree_spelled : (C : Matrix) (cuts : List CutKind) (value bound : ℤ) (path : List Pair) (others : List (List Pair)) (number : ℕ) (lines : List TextLine) → tree_step C cuts value bound (path ∷ others) number lines ≡ spelled number lines (node_then C cuts value bound path others number)
+tree_spelled : (C : Matrix) (cuts : List CutKind) (value bound : ℤ) (path : List Pair) (others : List (List Pair)) (number : ℕ) (lines : List TextLine) → tree_step closed C cuts value bound (path ∷ others) number lines ≡ spelled number lines (node_then C cuts value bound path others number)
 tree_spelled C cuts value bound path others number [] = refl
 tree_spelled C cuts value bound path others number (long_file ∷ lines) = refl
 tree_spelled C cuts value bound path others number (long_line ∷ lines) = refl
 tree_spelled C cuts value bound path others number (ended_line bytes ∷ lines) = refl
 tree_spelled C cuts value bound path others number (unended_line bytes ∷ lines) = refl
 
-pub node_goes : (C : Matrix) (cuts : List CutKind) (value bound : ℤ) (at : Standing) (left : List (List Pair)) (number : ℕ) (old new : Option World) (before now : LineState) (word : CertWord) (numbers : List ℤ) → ReadsLine number old new before now word numbers → Passes C cuts bound at number word numbers left → Carries old before (tree_step C cuts value bound (pending at) number) new now (tree_step C cuts value bound left (number + 1))
+pub node_goes : (C : Matrix) (cuts : List CutKind) (value bound : ℤ) (at : Standing) (left : List (List Pair)) (number : ℕ) (old new : Option World) (before now : LineState) (word : CertWord) (numbers : List ℤ) → ReadsLine number old new before now word numbers → Passes C cuts bound (closed at.path) at number word numbers left → Carries old before (tree_step closed C cuts value bound (pending at) number) new now (tree_step closed C cuts value bound left (number + 1))
 node_goes C cuts value bound at left number old new before now word numbers reads passes v later =
-    answers_alike old before (tree_step C cuts value bound (pending at) number) (λ lines. spelled number lines (node_then C cuts value bound at.path at.others number)) v (tree_spelled C cuts value bound at.path at.others number)
+    answers_alike old before (tree_step closed C cuts value bound (pending at) number) (λ lines. spelled number lines (node_then C cuts value bound at.path at.others number)) v (tree_spelled C cuts value bound at.path at.others number)
     (reads (node_then C cuts value bound at.path at.others number) v
-    (answers_alike new now (node_then C cuts value bound at.path at.others number (record { word = word; numbers = numbers })) (tree_step C cuts value bound left (number + 1)) v (λ rest. passes (λ l. tree_step C cuts value bound l (number + 1) rest)) later))
+    (answers_alike new now (node_then C cuts value bound at.path at.others number (record { word = word; numbers = numbers })) (tree_step closed C cuts value bound left (number + 1)) v (λ rest. passes (λ l. tree_step closed C cuts value bound l (number + 1) rest)) later))
 
-pub node_fails : (C : Matrix) (cuts : List CutKind) (value bound : ℤ) (at : Standing) (number : ℕ) (old new : Option World) (before now : LineState) (word : CertWord) (numbers : List ℤ) (v : Verdict) → ReadsLine number old new before now word numbers → Fails C cuts bound at number word numbers v → Answers old before (tree_step C cuts value bound (pending at) number) v
+pub node_fails : (C : Matrix) (cuts : List CutKind) (value bound : ℤ) (at : Standing) (number : ℕ) (old new : Option World) (before now : LineState) (word : CertWord) (numbers : List ℤ) (v : Verdict) → ReadsLine number old new before now word numbers → Fails C cuts bound (closed at.path) at number word numbers v → Answers old before (tree_step closed C cuts value bound (pending at) number) v
 node_fails C cuts value bound at number old new before now word numbers v reads fails =
-    answers_alike old before (tree_step C cuts value bound (pending at) number) (λ lines. spelled number lines (node_then C cuts value bound at.path at.others number)) v (tree_spelled C cuts value bound at.path at.others number)
+    answers_alike old before (tree_step closed C cuts value bound (pending at) number) (λ lines. spelled number lines (node_then C cuts value bound at.path at.others number)) v (tree_spelled C cuts value bound at.path at.others number)
     (reads (node_then C cuts value bound at.path at.others number) v
-    (always new now (node_then C cuts value bound at.path at.others number (record { word = word; numbers = numbers })) v (λ rest. fails (λ l. tree_step C cuts value bound l (number + 1) rest))))
+    (always new now (node_then C cuts value bound at.path at.others number (record { word = word; numbers = numbers })) v (λ rest. fails (λ l. tree_step closed C cuts value bound l (number + 1) rest))))
 
-pub node_stops : (C : Matrix) (cuts : List CutKind) (value bound : ℤ) (at : Standing) (number : ℕ) (old : Option World) (before : LineState) (v : Verdict) → StopsLine number old before v → Answers old before (tree_step C cuts value bound (pending at) number) v
+pub node_stops : (C : Matrix) (cuts : List CutKind) (value bound : ℤ) (at : Standing) (number : ℕ) (old : Option World) (before : LineState) (v : Verdict) → StopsLine number old before v → Answers old before (tree_step closed C cuts value bound (pending at) number) v
 node_stops C cuts value bound at number old before v stops =
-    answers_alike old before (tree_step C cuts value bound (pending at) number) (λ lines. spelled number lines (node_then C cuts value bound at.path at.others number)) v (tree_spelled C cuts value bound at.path at.others number) (stops (node_then C cuts value bound at.path at.others number))
+    answers_alike old before (tree_step closed C cuts value bound (pending at) number) (λ lines. spelled number lines (node_then C cuts value bound at.path at.others number)) v (tree_spelled C cuts value bound at.path at.others number) (stops (node_then C cuts value bound at.path at.others number))
 
 -- ---- cuts
 
@@ -56,7 +57,7 @@ cut_goes n number old new before now word numbers cut reads passes next v later 
     reads (λ line rest. cut_step n number line.word line.numbers (λ c. next c rest)) v
     (answers_alike new now (λ rest. cut_step n number word numbers (λ c. next c rest)) (next cut) v (λ rest. passes (λ c. next c rest)) later)
 
-pub cut_fails : (n number : ℕ) (old new : Option World) (before now : LineState) (word : CertWord) (numbers : List ℤ) (v : Verdict) → ReadsLine number old new before now word numbers → ((next : CutKind → CheckAnswer) → IsVerdict (cut_step n number word numbers next) v) → (next : CutKind → List TextLine → CheckAnswer) → Answers old before (λ lines. spelled number lines (λ line rest. cut_step n number line.word line.numbers (λ c. next c rest))) v
+pub cut_fails : (n number : ℕ) (old new : Option World) (before now : LineState) (word : CertWord) (numbers : List ℤ) (v : Verdict) → ReadsLine number old new before now word numbers → ((next : CutKind → CheckAnswer) → Says (cut_step n number word numbers next) v) → (next : CutKind → List TextLine → CheckAnswer) → Answers old before (λ lines. spelled number lines (λ line rest. cut_step n number line.word line.numbers (λ c. next c rest))) v
 cut_fails n number old new before now word numbers v reads fails next =
     reads (λ line rest. cut_step n number line.word line.numbers (λ c. next c rest)) v
     (always new now (λ rest. cut_step n number word numbers (λ c. next c rest)) v (λ rest. fails (λ c. next c rest)))
@@ -65,29 +66,29 @@ pub cut_stops : (n number : ℕ) (old : Option World) (before : LineState) (v : 
 cut_stops n number old before v stops next = stops (λ line rest. cut_step n number line.word line.numbers (λ c. next c rest))
 
 -- one cut more
-pub left_is : (C : Matrix) (value bound : ℤ) (count done : ℕ) (cuts : List CutKind) (number : ℕ) (lines : List TextLine) → done < count → cuts_left_step C value bound (count - done) cuts number lines ≡ spelled number lines (λ line rest. cut_step C.size number line.word line.numbers (λ cut. cuts_left_step C value bound (count - (done + 1)) (cuts ++ cut ∷ []) (number + 1) rest))
+pub left_is : (C : Matrix) (value bound : ℤ) (count done : ℕ) (cuts : List CutKind) (number : ℕ) (lines : List TextLine) → done < count → cuts_left_step closed C value bound (count - done) cuts number lines ≡ spelled number lines (λ line rest. cut_step C.size number line.word line.numbers (λ cut. cuts_left_step closed C value bound (count - (done + 1)) (cuts ++ cut ∷ []) (number + 1) rest))
 left_is C value bound count done cuts number lines less =
     let one : count - done ≡ suc (count - (done + 1)) = omega arith in
-    ap (λ (k : ℕ). cuts_left_step C value bound k cuts number lines) one
+    ap (λ (k : ℕ). cuts_left_step closed C value bound k cuts number lines) one
 
 pub cut_more : (C : Matrix) (value bound : ℤ) (count done : ℕ) (cuts next_cuts : List CutKind) (cut : CutKind) (number next_number : ℕ) (old mid new : Option World) (first before now : LineState) (start : List TextLine → CheckAnswer) → done < count → next_cuts ≡ cuts ++ cut ∷ [] → number + 1 ≡ next_number
-    → Carries old first start mid before (cuts_left_step C value bound (count - done) cuts number)
+    → Carries old first start mid before (cuts_left_step closed C value bound (count - done) cuts number)
     → ((next : CutKind → List TextLine → CheckAnswer) → Carries mid before (λ lines. spelled number lines (λ line rest. cut_step C.size number line.word line.numbers (λ c. next c rest))) new now (next cut))
-    → Carries old first start new now (cuts_left_step C value bound (count - (done + 1)) next_cuts next_number)
+    → Carries old first start new now (cuts_left_step closed C value bound (count - (done + 1)) next_cuts next_number)
 cut_more C value bound count done cuts next_cuts cut number next_number old mid new first before now start less pushed here so_far goes v later =
-    let there : Answers new now (cuts_left_step C value bound (count - (done + 1)) (cuts ++ cut ∷ []) (number + 1)) v =
-    subst (λ (k : ℕ). Answers new now (cuts_left_step C value bound (count - (done + 1)) (cuts ++ cut ∷ []) k) v) (sym here)
-    (subst (λ (l : List CutKind). Answers new now (cuts_left_step C value bound (count - (done + 1)) l next_number) v) pushed later) in
-    so_far v (answers_alike mid before (cuts_left_step C value bound (count - done) cuts number) _ v (λ lines. left_is C value bound count done cuts number lines less)
-    (goes (λ c rest. cuts_left_step C value bound (count - (done + 1)) (cuts ++ c ∷ []) (number + 1) rest) v there))
+    let there : Answers new now (cuts_left_step closed C value bound (count - (done + 1)) (cuts ++ cut ∷ []) (number + 1)) v =
+    subst (λ (k : ℕ). Answers new now (cuts_left_step closed C value bound (count - (done + 1)) (cuts ++ cut ∷ []) k) v) (sym here)
+    (subst (λ (l : List CutKind). Answers new now (cuts_left_step closed C value bound (count - (done + 1)) l next_number) v) pushed later) in
+    so_far v (answers_alike mid before (cuts_left_step closed C value bound (count - done) cuts number) _ v (λ lines. left_is C value bound count done cuts number lines less)
+    (goes (λ c rest. cuts_left_step closed C value bound (count - (done + 1)) (cuts ++ c ∷ []) (number + 1) rest) v there))
 
 pub cut_ends : (C : Matrix) (value bound : ℤ) (count done : ℕ) (cuts : List CutKind) (number : ℕ) (old mid : Option World) (first before : LineState) (start : List TextLine → CheckAnswer) (v : Verdict) → done < count
-    → Carries old first start mid before (cuts_left_step C value bound (count - done) cuts number)
+    → Carries old first start mid before (cuts_left_step closed C value bound (count - done) cuts number)
     → ((next : CutKind → List TextLine → CheckAnswer) → Answers mid before (λ lines. spelled number lines (λ line rest. cut_step C.size number line.word line.numbers (λ c. next c rest))) v)
     → Answers old first start v
 cut_ends C value bound count done cuts number old mid first before start v less so_far stops =
-    so_far v (answers_alike mid before (cuts_left_step C value bound (count - done) cuts number) _ v (λ lines. left_is C value bound count done cuts number lines less)
-    (stops (λ c rest. cuts_left_step C value bound (count - (done + 1)) (cuts ++ c ∷ []) (number + 1) rest)))
+    so_far v (answers_alike mid before (cuts_left_step closed C value bound (count - done) cuts number) _ v (λ lines. left_is C value bound count done cuts number lines less)
+    (stops (λ c rest. cuts_left_step closed C value bound (count - (done + 1)) (cuts ++ c ∷ []) (number + 1) rest)))
 
 -- ---- the order that is covered
 
@@ -105,30 +106,30 @@ too_far (Some w) first now start k limit far advanced = λ placed. let h = advan
 -- ---- the loop over the tree
 
 pub tree_ends : (C : Matrix) (cuts its_cuts : List CutKind) (value bound : ℤ) (at : Standing) (left : List (List Pair)) (number : ℕ) (old mid new : Option World) (first before now : LineState) (start : List TextLine → CheckAnswer) (v : Verdict) → its_cuts ≡ cuts → left ≡ []
-    → Carries old first start mid before (tree_step C cuts value bound (pending at) number)
-    → ((w : ℤ) → Carries mid before (tree_step C its_cuts w bound (pending at) number) new now (tree_step C its_cuts w bound left (number + 1)))
+    → Carries old first start mid before (tree_step closed C cuts value bound (pending at) number)
+    → ((w : ℤ) → Carries mid before (tree_step closed C its_cuts w bound (pending at) number) new now (tree_step closed C its_cuts w bound left (number + 1)))
     → Answers new now (end_step value bound (number + 1)) v → Answers old first start v
 tree_ends C cuts its_cuts value bound at left number old mid new first before now start v same none so_far goes ends =
     so_far v
-    (subst (λ (k : List CutKind). Answers mid before (tree_step C k value bound (pending at) number) v) same
-    (goes value v (subst (λ (l : List (List Pair)). Answers new now (tree_step C its_cuts value bound l (number + 1)) v) (sym none) ends)))
+    (subst (λ (k : List CutKind). Answers mid before (tree_step closed C k value bound (pending at) number) v) same
+    (goes value v (subst (λ (l : List (List Pair)). Answers new now (tree_step closed C its_cuts value bound l (number + 1)) v) (sym none) ends)))
 
 pub tree_more : (C : Matrix) (cuts its_cuts : List CutKind) (value bound : ℤ) (at next : Standing) (left : List (List Pair)) (number : ℕ) (old mid new : Option World) (first before now : LineState) (start : List TextLine → CheckAnswer) → its_cuts ≡ cuts → left ≡ pending next
-    → Carries old first start mid before (tree_step C cuts value bound (pending at) number)
-    → ((w : ℤ) → Carries mid before (tree_step C its_cuts w bound (pending at) number) new now (tree_step C its_cuts w bound left (number + 1)))
-    → Carries old first start new now (tree_step C cuts value bound (pending next) (number + 1))
+    → Carries old first start mid before (tree_step closed C cuts value bound (pending at) number)
+    → ((w : ℤ) → Carries mid before (tree_step closed C its_cuts w bound (pending at) number) new now (tree_step closed C its_cuts w bound left (number + 1)))
+    → Carries old first start new now (tree_step closed C cuts value bound (pending next) (number + 1))
 tree_more C cuts its_cuts value bound at next left number old mid new first before now start same is so_far goes v later =
     so_far v
-    (subst (λ (k : List CutKind). Answers mid before (tree_step C k value bound (pending at) number) v) same
+    (subst (λ (k : List CutKind). Answers mid before (tree_step closed C k value bound (pending at) number) v) same
     (goes value v
-    (subst (λ (l : List (List Pair)). Answers new now (tree_step C its_cuts value bound l (number + 1)) v) (sym is)
-    (subst (λ (k : List CutKind). Answers new now (tree_step C k value bound (pending next) (number + 1)) v) (sym same) later))))
+    (subst (λ (l : List (List Pair)). Answers new now (tree_step closed C its_cuts value bound l (number + 1)) v) (sym is)
+    (subst (λ (k : List CutKind). Answers new now (tree_step closed C k value bound (pending next) (number + 1)) v) (sym same) later))))
 
 pub tree_stops : (C : Matrix) (cuts its_cuts : List CutKind) (value bound : ℤ) (at : Standing) (number : ℕ) (old mid : Option World) (first before : LineState) (start : List TextLine → CheckAnswer) (v : Verdict) → its_cuts ≡ cuts
-    → Carries old first start mid before (tree_step C cuts value bound (pending at) number)
-    → ((w : ℤ) → Answers mid before (tree_step C its_cuts w bound (pending at) number) v) → Answers old first start v
+    → Carries old first start mid before (tree_step closed C cuts value bound (pending at) number)
+    → ((w : ℤ) → Answers mid before (tree_step closed C its_cuts w bound (pending at) number) v) → Answers old first start v
 tree_stops C cuts its_cuts value bound at number old mid first before start v same so_far stops =
-    so_far v (subst (λ (k : List CutKind). Answers mid before (tree_step C k value bound (pending at) number) v) same (stops value))
+    so_far v (subst (λ (k : List CutKind). Answers mid before (tree_step closed C k value bound (pending at) number) v) same (stops value))
 
 pub upper_from : (C : Matrix) (bound : ℤ) (before left : List (List Pair)) → left ≡ [] → ((s : List ℕ) → IsOrder C.size s → IsCovered C bound before s) → StaysCovered C bound before left → IsUpperBound C bound
 upper_from C bound before left none covered stays = record { each = λ s o. subst (λ (l : List (List Pair)). IsCovered C bound l s) none (stays s o (covered s o)) }
@@ -163,7 +164,7 @@ cause_from a b c verdict.Memory l h = tt
 
 -- all cuts are there
 pub no_more_cuts : (C : Matrix) (value bound : ℤ) (count done : ℕ) (cuts : List CutKind) (number : ℕ) (old mid : Option World) (first before : LineState) (start : List TextLine → CheckAnswer) (v : Verdict) → count ≤ done
-    → Carries old first start mid before (cuts_left_step C value bound (count - done) cuts number) → Answers mid before (tree_step C cuts value bound ([] ∷ []) number) v → Answers old first start v
+    → Carries old first start mid before (cuts_left_step closed C value bound (count - done) cuts number) → Answers mid before (tree_step closed C cuts value bound ([] ∷ []) number) v → Answers old first start v
 no_more_cuts C value bound count done cuts number old mid first before start v all so_far ends =
     let none : count - done ≡ 0 = omega arith in
-    so_far v (subst (λ (k : ℕ). Answers mid before (cuts_left_step C value bound k cuts number) v) (sym none) ends)
+    so_far v (subst (λ (k : ℕ). Answers mid before (cuts_left_step closed C value bound k cuts number) v) (sym none) ends)

@@ -20,19 +20,19 @@ use Rattle.lop_certtext.specs.Line.{CertLine, line_reading}
 use Rattle.lop_certtext.specs.Answer.{TextLine, CheckAnswer, rejected, with_line, spelled, tail_step}
 use Rattle.lop_check.specs.declared.verdict.Verdict.{Verdict}
 use Rattle.lop_check.specs.declared.verdict.Verdict.TheVariants as verdict
-use Rattle.lop_check.specs.Verdict.{IsVerdict}
+use Rattle.lop_check.specs.Verdict.{Says}
 use Rattle.lop_check.specs.Walk.{Answers, GoesOn, StopsAt, ReadsLine, StopsLine, Advances, is_due}
 use Rattle.lop_check.proofs.Heads.{head_ended, head_advances, head_unended, head_end, head_long_line, head_long_file}
 
 -- a step that answers the same on all lines
-pub always : (told : Option World) (r : LineState) (step : List TextLine → CheckAnswer) (v : Verdict) → ((lines : List TextLine) → IsVerdict (step lines) v) → Answers told r step v
+pub always : (told : Option World) (r : LineState) (step : List TextLine → CheckAnswer) (v : Verdict) → ((lines : List TextLine) → Says (step lines) v) → Answers told r step v
 always None r step v all = tt
 always (Some w) r step v all = λ placed. all _
 
 -- the same verdict of two steps that answer alike
 pub answers_alike : (told : Option World) (r : LineState) (step other : List TextLine → CheckAnswer) (v : Verdict) → ((lines : List TextLine) → step lines ≡ other lines) → Answers told r other v → Answers told r step v
 answers_alike None r step other v same so = tt
-answers_alike (Some w) r step other v same so = λ placed. subst (λ a. IsVerdict a v) (sym (same _)) (so placed)
+answers_alike (Some w) r step other v same so = λ placed. subst (λ a. Says a v) (sym (same _)) (so placed)
 
 -- a line behind the end
 pub tail_text : (old new : Option World) (before now : LineState) (size : ℕ) (ended : Bool) → IsLine old before now (line.Text size ended) → HoldsLine now (line.Text size ended)
@@ -116,8 +116,8 @@ pub answers_then : (told : Option World) (r : LineState) (b : Bool) (step : List
 answers_then told r b step other v e so = answers_alike told r (λ lines. cond b (step lines) other) step v (λ lines. ap (λ (t : Bool). cond t (step lines) other) e) so
 
 -- a test fails: the verdict is the other answer
-pub answers_else : (told : Option World) (r : LineState) (b : Bool) (step : List TextLine → CheckAnswer) (other : CheckAnswer) (v : Verdict) → b ≡ false → IsVerdict other v → Answers told r (λ lines. cond b (step lines) other) v
-answers_else told r b step other v e so = always told r (λ lines. cond b (step lines) other) v (λ lines. subst (λ a. IsVerdict a v) (sym (ap (λ (t : Bool). cond t (step lines) other) e)) so)
+pub answers_else : (told : Option World) (r : LineState) (b : Bool) (step : List TextLine → CheckAnswer) (other : CheckAnswer) (v : Verdict) → b ≡ false → Says other v → Answers told r (λ lines. cond b (step lines) other) v
+answers_else told r b step other v e so = always told r (λ lines. cond b (step lines) other) v (λ lines. subst (λ a. Says a v) (sym (ap (λ (t : Bool). cond t (step lines) other) e)) so)
 
 -- a line that was read has the due word
 pub expect_goes : (old new : Option World) (before now : LineState) (number : ℕ) (due word : CertWord) (numbers : List ℤ) (found : Bool) → found ≡ sameb the_type word due → found ≡ true → ReadsLine number old new before now word numbers → GoesOn due number old new before now numbers
@@ -168,8 +168,8 @@ pub not_lt_test : (x y : ℤ) → y ≤ℤ x → int_lt x y ≡ false
 not_lt_test x y l = grind (arith, ints)
 
 -- the two numbers that a reason keeps
-pub verdict_value : (a b u l : ℤ) (v : Verdict) → v ≡ verdict.Rejected 4 (reason.Value u l) → u ≡ a → l ≡ b → IsVerdict (rejected 4 (reason.Value a b)) v
-verdict_value a b u l v is first second = subst (IsVerdict (rejected 4 (reason.Value a b))) (sym is) (ap (λ (x : ℤ). rejected 4 (reason.Value x b)) (sym first) ∙ ap (λ (y : ℤ). rejected 4 (reason.Value u y)) (sym second))
+pub verdict_value : (a b u l : ℤ) (v : Verdict) → v ≡ verdict.Rejected 4 (reason.Value u l) → u ≡ a → l ≡ b → Says (rejected 4 (reason.Value a b)) v
+verdict_value a b u l v is first second = subst (Says (rejected 4 (reason.Value a b))) (sym is) (ap (λ (x : ℤ). rejected 4 (reason.Value x b)) (sym first) ∙ ap (λ (y : ℤ). rejected 4 (reason.Value u y)) (sym second))
 
-pub verdict_high : (number : ℕ) (a b u l : ℤ) (v : Verdict) → v ≡ verdict.Rejected number (reason.High u l) → u ≡ a → l ≡ b → IsVerdict (rejected number (reason.High a b)) v
-verdict_high number a b u l v is first second = subst (IsVerdict (rejected number (reason.High a b))) (sym is) (ap (λ (x : ℤ). rejected number (reason.High x b)) (sym first) ∙ ap (λ (y : ℤ). rejected number (reason.High u y)) (sym second))
+pub verdict_high : (number : ℕ) (a b u l : ℤ) (v : Verdict) → v ≡ verdict.Rejected number (reason.High u l) → u ≡ a → l ≡ b → Says (rejected number (reason.High a b)) v
+verdict_high number a b u l v is first second = subst (Says (rejected number (reason.High a b))) (sym is) (ap (λ (x : ℤ). rejected number (reason.High x b)) (sym first) ∙ ap (λ (y : ℤ). rejected number (reason.High u y)) (sym second))

@@ -1,6 +1,6 @@
 pub mod Verdict
 pub mod Walk
-pub mod Table
+pub mod Trail
 pub mod Standing
 pub mod Cycles
 pub mod Charges

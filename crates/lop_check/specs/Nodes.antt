@@ -10,7 +10,7 @@ use Rattle.lop_certtext.specs.LeafLine.{are_rising, terms_of}
 use Rattle.lop_certtext.specs.Answer.{CheckAnswer, node_step, leaf_step}
 use Rattle.lop_check.specs.declared.node.Proof.{Proof}
 use Rattle.lop_check.specs.declared.verdict.Verdict.{Verdict}
-use Rattle.lop_check.specs.Verdict.{IsVerdict}
+use Rattle.lop_check.specs.Verdict.{Says}
 use Rattle.lop_check.specs.Standing.{Standing, standing, IsWalk, IsCovered}
 
 -- the cuts are right and of n objects
@@ -25,7 +25,12 @@ place p = standing p.steps.items
 -- what the checker keeps while it walks
 pub record IsProof (n : ℕ) (p : Proof) : Type 0 where
   pub cuts : AreRightCuts n p.cuts.items
-  pub walk : IsWalk n p.steps.items p.words.items
+  pub walk : IsWalk n p.steps.items p.trail
+  pub square : length p.charges.items ≡ n * n
+
+-- the tables are those of n objects
+pub record IsRoomOf (n : ℕ) (p : Proof) : Type 0 where
+  pub size : p.trail.size ≡ n
   pub square : length p.charges.items ≡ n * n
 
 -- nothing is kept yet
@@ -33,16 +38,17 @@ pub record IsFresh (n : ℕ) (p : Proof) : Type 0 where
   pub kept : IsProof n p
   pub no_cuts : p.cuts.items ≡ []
   pub no_steps : p.steps.items ≡ []
+  pub root : p.trail ≡ record { size = n; path = []; fixed = [] }
 
--- the line passes, and these paths are pending from then on
-abbrev pub Passes : Matrix → List CutKind → ℤ → Standing → ℕ → CertWord → List ℤ → List (List Pair) → Type 0
-Passes C cuts bound at number word ns left =
-    (next : List (List Pair) → CheckAnswer) → node_step C cuts bound at.path at.others number word ns next ≡ next left
+-- the line passes, where the closure of the path is G, and these paths are pending from then on
+abbrev pub Passes : Matrix → List CutKind → ℤ → List Pair → Standing → ℕ → CertWord → List ℤ → List (List Pair) → Type 0
+Passes C cuts bound G at number word ns left =
+    (next : List (List Pair) → CheckAnswer) → node_step C cuts bound G at.path at.others number word ns next ≡ next left
 
 -- the line fails, with this verdict
-abbrev pub Fails : Matrix → List CutKind → ℤ → Standing → ℕ → CertWord → List ℤ → Verdict → Type 0
-Fails C cuts bound at number word ns verdict =
-    (next : List (List Pair) → CheckAnswer) → IsVerdict (node_step C cuts bound at.path at.others number word ns next) verdict
+abbrev pub Fails : Matrix → List CutKind → ℤ → List Pair → Standing → ℕ → CertWord → List ℤ → Verdict → Type 0
+Fails C cuts bound G at number word ns verdict =
+    (next : List (List Pair) → CheckAnswer) → Says (node_step C cuts bound G at.path at.others number word ns next) verdict
 
 -- each order that kept a pending path, or weighed at most the bound, does so now
 abbrev pub StaysCovered : Matrix → ℤ → List (List Pair) → List (List Pair) → Type 0
@@ -63,4 +69,4 @@ pub record AreTerms (count : ℕ) (ns : List ℤ) : Type 0 where
 -- the step of a leaf with this scale and these terms
 abbrev pub shown : Matrix → Proof → ℕ → List ℤ → ℤ → ℕ → (List (List Pair) → CheckAnswer) → CheckAnswer
 shown C p scale ns bound number next =
-    leaf_step C p.cuts.items bound (place p).path (place p).others number (Some (record { scale = scale; terms = terms_of ns })) next
+    leaf_step C p.cuts.items bound p.trail.fixed (place p).others number (Some (record { scale = scale; terms = terms_of ns })) next

@@ -8,13 +8,21 @@ use Rattle.lop_certtext.specs.Answer.{CheckAnswer, accepted, rejected, too_long}
 use Rattle.lop_check.specs.declared.verdict.Verdict.{Verdict}
 use Rattle.lop_check.specs.declared.verdict.Verdict.TheVariants.{Accepted, Rejected, Failed, TooLong, Memory}
 
--- the verdict says that this is the answer; Failed and Memory say nothing of it
-abbrev pub IsVerdict : CheckAnswer → Verdict → Type 0
-IsVerdict answer (Accepted value bound) = answer ≡ accepted value bound
-IsVerdict answer (Rejected line reason) = answer ≡ rejected line reason
-IsVerdict answer TooLong = answer ≡ too_long
-IsVerdict answer Failed = ⊤
-IsVerdict answer Memory = ⊤
+-- the verdict says what the answer is; Failed and Memory say nothing of it
+abbrev pub IsVerdict : (CheckAnswer → Type 0) → Verdict → Type 0
+IsVerdict is_answer (Accepted value bound) = is_answer (accepted value bound)
+IsVerdict is_answer (Rejected line reason) = is_answer (rejected line reason)
+IsVerdict is_answer TooLong = is_answer too_long
+IsVerdict is_answer Failed = ⊤
+IsVerdict is_answer Memory = ⊤
+
+-- the verdict says that this is the answer
+abbrev pub Says : CheckAnswer → Verdict → Type 0
+Says answer (Accepted value bound) = answer ≡ accepted value bound
+Says answer (Rejected line reason) = answer ≡ rejected line reason
+Says answer TooLong = answer ≡ too_long
+Says answer Failed = ⊤
+Says answer Memory = ⊤
 
 -- an accepted text is the text of a true certificate, of at most 2^40 bytes; one that is not accepted is none
 abbrev pub IsExact : Matrix → List ℕ → Verdict → Type 0

@@ -8,8 +8,9 @@ use Rattle.lop_certtext.specs.declared.word.CertWord.TheVariants.{Version, Objec
 use Rattle.lop_certtext.specs.Answer.{TextLine, CheckAnswer, lines_from, spelled, expect, objects_step, is_version, is_objects, is_order_line, is_value, is_bound, is_cuts, is_end}
 use Rattle.lop_certtext.specs.Line.{CertLine, is_row}
 use Rattle.lop_model.specs.Matrix.{Matrix}
+use Rattle.lop_model.specs.Closing.{closed}
 use Rattle.lop_check.specs.declared.verdict.Verdict.{Verdict}
-use Rattle.lop_check.specs.Verdict.{IsVerdict}
+use Rattle.lop_check.specs.Verdict.{Says}
 
 -- how many bytes of the file stand before the next line
 abbrev pub line_start : LineState → ℕ
@@ -22,7 +23,7 @@ lines_to_come w r = lines_from (line_start r) (slice_split (λ b. b == 10) (to_c
 -- Where the desk tells, the verdict is what this step answers on the lines to come. No more bytes wait than were read.
 abbrev pub Answers : Option World → LineState → (List TextLine → CheckAnswer) → Verdict → Type 0
 Answers None r step verdict = ⊤
-Answers (Some w) r step verdict = length r.pending ≤ r.count → IsVerdict (step (lines_to_come w r)) verdict
+Answers (Some w) r step verdict = length r.pending ≤ r.count → Says (step (lines_to_come w r)) verdict
 
 -- whether a word is the one that is due
 abbrev pub is_due : CertWord → CertWord → Bool
@@ -76,4 +77,4 @@ StopsAt due number told before verdict =
 
 -- the first step: the version, and then the number of objects
 abbrev pub version_step : Matrix → List TextLine → CheckAnswer
-version_step C lines = expect is_version 1 lines (λ _ rest. objects_step C rest)
+version_step C lines = expect is_version 1 lines (λ _ rest. objects_step closed C rest)

@@ -3,7 +3,9 @@ ghost use Rattle.std.specs.Prelude.{◌≡◌, ◌≤◌, ◌<◌, ◌+◌, ◌-
 ghost use Rattle.lop_cuts.specs.Kind.{IsCut, FitsCut, IsArcBelow, arcs_of, right_side_of};
 ghost use Rattle.lop_cuts.specs.Lagrangian.{right_sides};
 ghost use Rattle.lop_certtext.specs.LeafLine.{are_rising, terms_of, terms_in};
-ghost use Rattle.lop_check.specs.Charges.{cell, arc_count, HasCharges, AreSmall};
+ghost use Rattle.lop_model.specs.Cells.{cell};
+ghost use Rattle.lop_cuts.specs.Charges.{arc_count, HasCharges};
+ghost use Rattle.lop_check.specs.Charges.{AreSmall};
 
 use lop_cuts::Cut;
 use lop_model::Pair;

@@ -1,9 +1,10 @@
 // The checker and its room.
-ghost use Rattle.std.specs.Prelude.{◌≡◌, ◌≤◌, IfOk, IfSome};
+ghost use Rattle.std.specs.Prelude.{◌≡◌, ◌≤◌, ◌<◌, ◌-◌, ◌++◌, ◌∷◌, [], length, take, IfOk, IfSome};
 ghost use Rattle.lop_desk.specs.World.{unread};
+ghost use Rattle.lop_model.specs.Fixings.{IsClosure, IsUndecided};
 ghost use Rattle.lop_desk.specs.Desk.{IsOpen};
 ghost use Rattle.lop_desk.specs.Whole.{OnlyOpens};
-ghost use Rattle.lop_certtext.specs.Answer.{check_answer};
+ghost use Rattle.lop_certtext.specs.Answer.{IsCheckAnswer};
 ghost use Rattle.lop_check.specs.Verdict.{IsVerdict, IsExact, IsBounded, VerdictCause};
 
 use crate::Verdict;
@@ -11,12 +12,12 @@ use crate::node::Proof;
 use crate::reading::Reading;
 use crate::steps::version_step;
 use lop_desk::Desk;
-use lop_model::Weights;
+use lop_model::{Pair, Weights};
 use std::alloc::{AllocError, Global};
 use std::marker::Model;
 
-/// A room for checks of files of n objects: one line and its numbers, and what grows with the cuts and the path of a
-/// certificate. A contract sees n.
+/// A room for checks of files of n objects: one line and its numbers, the cuts, and the path to a node of the tree with
+/// all that it fixes. A contract sees n, the path, and the pairs that it fixes: the closure of the path.
 #[derive(Drop)]
 pub struct CheckRoom {
     reading: Reading,
@@ -25,50 +26,73 @@ pub struct CheckRoom {
 }
 
 impl Model for CheckRoom {
-    ghost use Rattle.std.specs.Prelude.{ℕ};
+    ghost use Rattle.lop_check.specs.Trail.{FixedPath};
+    ghost use Rattle.lop_check.specs.Nodes.{IsRoomOf};
 
-    ghost Value = { ℕ };
+    ghost Value = { FixedPath };
 
-    ghost view = { λ r. r.n };
+    ghost view = { λ r. r.proof.trail };
 
-    ghost invariant = { λ _. Unit {0} };
+    ghost invariant = { λ r. IsRoomOf r.n r.proof };
 }
 
 impl CheckRoom {
     /// A room for files of n objects, with one line and its numbers.
     pub fn new(alloc: Global, n: u16) -> Result<CheckRoom, AllocError>
-        ensures { IfOk result (λ room. room ≡ n) }
+        ensures { IfOk result (λ room. room ≡ record { size = n; path = []; fixed = [] }) }
     {
         let reading = Reading::new(alloc)?;
-        let proof = Proof::new(alloc);
+        let proof = Proof::new(alloc, n)?;
         Ok(CheckRoom { reading, proof, n })
     }
 
     /// The number of objects.
     pub fn n(&self) -> u16
-        ensures { result ≡ self.now }
+        ensures { result ≡ self.now.size }
     {
         self.n
     }
 }
 
+impl CheckRoom {
+    /// Appends an undecided pair to the path. It takes no memory. O(n), and O(n) for each object that is fixed before its
+    /// first.
+    pub fn descend(&mut self, pair: Pair)
+        requires undecided { IsUndecided self.old.size self.old.path pair.before pair.after }
+        ensures size { self.new.size ≡ self.old.size }
+        ensures path { self.new.path ≡ self.old.path ++ pair ∷ [] }
+        ensures closure { IsClosure self.new.path self.new.fixed }
+    {
+        self.proof.trail.descend(pair);
+    }
+
+    /// Takes the last pair off the path, and with it exactly what it fixed. As much as it took to append it.
+    pub fn ascend(&mut self)
+        requires some { 0 < length self.old.path }
+        ensures size { self.new.size ≡ self.old.size }
+        ensures path { self.new.path ≡ take (length self.old.path - 1) self.old.path }
+        ensures closure { IsClosure self.new.path self.new.fixed }
+    {
+        self.proof.trail.ascend();
+    }
+}
+
 /// What the checker says of the opened file, which was just opened. The lines are read in turn, one at a time, and the
-/// first test that fails gives line and reason. It takes memory for O(n²) numbers, the cuts and the path. Cost: O(1) a
-/// byte, O(n² + arcs of its terms) a leaf, and O(n² / 64) for each pair of the path behind a leaf.
+/// first test that fails gives line and reason. The room's path is emptied first. It takes memory for the cuts and the
+/// steps of the path; all else is there with the room. Cost: O(1) a byte, O(n² + arcs of its terms) a leaf, and for each
+/// step down or up the tree O(n), and O(n) for each object that is fixed before the first of its pair.
 pub fn check<D: Desk>(weights: &Weights, desk: &mut D, room: &mut CheckRoom) -> Verdict
     requires opened { IsOpen (D.told desk.old) }
-    requires same_n { room.old ≡ weights.now.size }
-    ensures answer { IfSome (D.told desk.old) (λ w. IsVerdict (check_answer weights.now (unread w)) result) }
+    requires same_n { room.old.size ≡ weights.now.size }
+    ensures answer { IfSome (D.told desk.old) (λ w. IsVerdict (IsCheckAnswer weights.now (unread w)) result) }
     ensures exact { IfSome (D.told desk.old) (λ w. IsExact weights.now (unread w) result) }
     ensures bounded { IsBounded weights.now result }
-    ensures room { room.new ≡ room.old }
+    ensures room { room.new.size ≡ room.old.size }
     ensures world { OnlyOpens (D.told desk.old) (D.told desk.new) }
     ensures later { D.faults desk.old ≤ D.faults desk.new }
     ensures cause { VerdictCause (D.faults desk.old) (D.faults desk.new) result }
 {
     room.reading.start();
-    match room.proof.restart(weights.n()) {
-        Ok(()) => version_step(weights, desk, &mut room.reading, &mut room.proof),
-        Err(_) => Verdict::Memory,
-    }
+    room.proof.restart(weights.n());
+    version_step(weights, desk, &mut room.reading, &mut room.proof)
 }

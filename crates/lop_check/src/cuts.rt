@@ -5,10 +5,11 @@ ghost use Rattle.lop_desk.specs.Whole.{OnlyOpens};
 ghost use Rattle.lop_model.specs.Matrix.{Matrix};
 ghost use Rattle.lop_cuts.specs.declared.kind.CutKind.{CutKind};
 ghost use Rattle.lop_cuts.specs.Kind.{IsCut, FitsCut};
+ghost use Rattle.lop_model.specs.Closing.{closed};
 ghost use Rattle.lop_certtext.specs.Answer.{TextLine, CheckAnswer, cuts_left_step, spelled, cut_step, is_cut_word};
-ghost use Rattle.lop_check.specs.Verdict.{IsVerdict, IsBounded, IsWeighed, VerdictCause};
+ghost use Rattle.lop_check.specs.Verdict.{Says, IsBounded, IsWeighed, VerdictCause};
 ghost use Rattle.lop_check.specs.Walk.{Answers, Carries};
-ghost use Rattle.lop_check.specs.Nodes.{IsProof, AreRightCuts};
+ghost use Rattle.lop_check.specs.Nodes.{IsProof, IsRoomOf, AreRightCuts};
 
 use crate::cut::cut_of;
 use crate::node::Proof;
@@ -40,7 +41,8 @@ pub fn cuts_left_step<D: Desk>(
     requires none { proof.old.cuts.items ≡ [] }
     requires few { count ≤ 1048576 }
     requires weighed { IsWeighed weights.now value }
-    ensures answer { Answers (D.told desk.old) reading.old.lines (cuts_left_step weights.now value bound count [] 7) result }
+    ensures answer { Answers (D.told desk.old) reading.old.lines (cuts_left_step closed weights.now value bound count [] 7) result }
+    ensures room { IsRoomOf weights.now.size proof.new }
     ensures bounded { IsBounded weights.now result }
     ensures world { OnlyOpens (D.told desk.old) (D.told desk.new) }
     ensures later { D.faults desk.old ≤ D.faults desk.new }
@@ -95,7 +97,7 @@ fn cut_line<D: Desk>(
 // The cut that a line spells, if its word is that of a cut.
 fn cut_of_line(n: u16, word: CertWord, numbers: &[i64], number: u64) -> Result<Cut, Verdict>
     ensures goes { IfOk result (λ cut. (next : CutKind → CheckAnswer) → cut_step n number word numbers.now next ≡ next cut) }
-    ensures stops { IfErr result (λ v. (next : CutKind → CheckAnswer) → IsVerdict (cut_step n number word numbers.now next) v) }
+    ensures stops { IfErr result (λ v. (next : CutKind → CheckAnswer) → Says (cut_step n number word numbers.now next) v) }
     ensures right { IfOk result IsCut }
     ensures fits { IfOk result (FitsCut n) }
     ensures bounded { (C : Matrix) → IfErr result (IsBounded C) }

@@ -4,16 +4,16 @@ ghost use Rattle.lop_model.specs.declared.pair.Pair.{Pair};
 ghost use Rattle.lop_model.specs.Matrix.{Matrix};
 ghost use Rattle.lop_certtext.specs.declared.word.CertWord.TheVariants as words;
 ghost use Rattle.lop_certtext.specs.Answer.{CheckAnswer, split_of};
-ghost use Rattle.lop_check.specs.Table.{row_words, IsTableOf};
-ghost use Rattle.lop_check.specs.Verdict.{IsBounded, IsVerdict, VerdictCause};
+ghost use Rattle.lop_check.specs.Trail.{FixedPath};
+ghost use Rattle.lop_check.specs.Verdict.{IsBounded, Says, VerdictCause};
 ghost use Rattle.lop_check.specs.Standing.{pending, pending_if};
-ghost use Rattle.lop_check.specs.Nodes.{IsFresh, IsProof, AreTerms, Passes, Fails, StaysCovered, place, shown};
+ghost use Rattle.lop_check.specs.Nodes.{IsFresh, IsRoomOf, IsProof, AreTerms, Passes, Fails, StaysCovered, place, shown};
 
 use crate::cut::{is_object, object_of};
 use crate::leaf::is_leaf_row;
 use crate::path::{Step, enter, leave, may_split};
 use crate::reading::rejected;
-use crate::table::row_words;
+use crate::trail::Trail;
 use crate::upper::upper;
 use crate::{Reason, Verdict};
 use lop_certtext::CertWord;
@@ -21,42 +21,38 @@ use lop_cuts::Cut;
 use lop_model::{Pair, Weights};
 use std::alloc::{AllocError, Global};
 
-// What a check keeps but for the line: the cuts, the steps down the tree and what their pairs lead to, and a table
-// for charges.
+// What a check keeps but for the line: the cuts, the steps down the tree and the trail
+// that follows them, and a table for charges.
 #[derive(Drop)]
 pub struct Proof {
     pub cuts: Vec<Cut>,
     pub steps: Vec<Step>,
-    pub words: Vec<u64>,
+    pub trail: Trail,
     pub charges: Vec<u128>,
 }
 
 impl Proof {
-    // With nothing in it.
-    pub fn new(alloc: Global) -> Proof
-        ensures cuts { result.cuts.items ≡ [] }
-        ensures steps { result.steps.items ≡ [] }
-    {
-        Proof {
-            cuts: Vec::new(alloc),
-            steps: Vec::new(alloc),
-            words: Vec::new(alloc),
-            charges: Vec::new(alloc),
-        }
-    }
-
-    // Forgets what was kept of an earlier check. It takes n² bits and n² charges.
-    pub fn restart(&mut self, n: u16) -> Result<(), AllocError>
-        ensures { OnOk result (IsFresh n self.new) }
+    // With nothing in it. It takes n² depths and n² charges, and room for the longest path.
+    pub fn new(alloc: Global, n: u16) -> Result<Proof, AllocError>
+        ensures { IfOk result (IsFresh n) }
     {
         let size = n as usize;
+        Ok(Proof {
+            cuts: Vec::new(alloc),
+            steps: Vec::new(alloc),
+            trail: Trail::new(alloc, n)?,
+            charges: vec![in alloc; 0; size * size]?,
+        })
+    }
+
+    // Forgets what was kept of an earlier check. O(n²).
+    pub fn restart(&mut self, n: u16)
+        requires { IsRoomOf n self.old }
+        ensures { IsFresh n self.new }
+    {
         self.cuts.clear();
         self.steps.clear();
-        self.words.clear();
-        self.words.resize(size * row_words(size), 0)?;
-        self.charges.clear();
-        self.charges.resize(size * size, 0)?;
-        Ok(())
+        self.trail.clear();
     }
 }
 
@@ -72,9 +68,10 @@ pub fn node_step(
     requires kept { IsProof weights.now.size proof.old }
     ensures kept { IfOk result (λ more. IsTrue more → IsProof weights.now.size proof.new) }
     ensures cuts { proof.new.cuts ≡ proof.old.cuts }
-    ensures passes { IfOk result (λ more. Passes weights.now proof.old.cuts.items bound (place proof.old) number word numbers.now (pending_if more (place proof.new))) }
+    ensures passes { IfOk result (λ more. Passes weights.now proof.old.cuts.items bound proof.old.trail.fixed (place proof.old) number word numbers.now (pending_if more (place proof.new))) }
     ensures covers { IfOk result (λ more. StaysCovered weights.now bound (pending (place proof.old)) (pending_if more (place proof.new))) }
-    ensures fails { IfErr result (Fails weights.now proof.old.cuts.items bound (place proof.old) number word numbers.now) }
+    ensures fails { IfErr result (Fails weights.now proof.old.cuts.items bound proof.old.trail.fixed (place proof.old) number word numbers.now) }
+    ensures room { IsRoomOf weights.now.size proof.new }
     ensures bounded { (C : Matrix) → IfErr result (IsBounded C) }
     ensures cause { (before now : ℕ) → IfErr result (VerdictCause before now) }
 {
@@ -86,9 +83,9 @@ pub fn node_step(
 }
 
 // The pair of 1 to n that the numbers spell, if it may be split under the path.
-fn split_of(n: u16, words: &[u64], numbers: &[i64]) -> Option<Pair>
-    requires table { (path : List Pair) × IsTableOf n words.now path }
-    ensures { (path : List Pair) → IsTableOf n words.now path → MatchOption result (split_of n path numbers.now ≡ None) (λ p. split_of n path numbers.now ≡ Some p) }
+fn split_of(n: u16, trail: &Trail, numbers: &[i64]) -> Option<Pair>
+    requires size { trail.now.size ≡ n }
+    ensures { MatchOption result (split_of n trail.now.fixed numbers.now ≡ None) (λ p. split_of n trail.now.fixed numbers.now ≡ Some p) }
 {
     match numbers {
         [a, b] => {
@@ -99,7 +96,7 @@ fn split_of(n: u16, words: &[u64], numbers: &[i64]) -> Option<Pair>
                 before: object_of(*a, n),
                 after: object_of(*b, n),
             };
-            if may_split(n, words, pair) {
+            if may_split(trail, pair) {
                 Some(pair)
             } else {
                 None
@@ -120,15 +117,16 @@ fn split_step(
     requires kept { IsProof weights.now.size proof.old }
     ensures kept { IfOk result (λ more. IsTrue more → IsProof weights.now.size proof.new) }
     ensures cuts { proof.new.cuts ≡ proof.old.cuts }
-    ensures passes { IfOk result (λ more. Passes weights.now proof.old.cuts.items bound (place proof.old) number words.SplitLine numbers.now (pending_if more (place proof.new))) }
+    ensures passes { IfOk result (λ more. Passes weights.now proof.old.cuts.items bound proof.old.trail.fixed (place proof.old) number words.SplitLine numbers.now (pending_if more (place proof.new))) }
     ensures covers { IfOk result (λ more. StaysCovered weights.now bound (pending (place proof.old)) (pending_if more (place proof.new))) }
-    ensures fails { IfErr result (Fails weights.now proof.old.cuts.items bound (place proof.old) number words.SplitLine numbers.now) }
+    ensures fails { IfErr result (Fails weights.now proof.old.cuts.items bound proof.old.trail.fixed (place proof.old) number words.SplitLine numbers.now) }
+    ensures room { IsRoomOf weights.now.size proof.new }
     ensures bounded { (C : Matrix) → IfErr result (IsBounded C) }
     ensures cause { (before now : ℕ) → IfErr result (VerdictCause before now) }
 {
     let n = weights.n();
-    match split_of(n, proof.words.as_slice(), numbers) {
-        Some(pair) => match enter(n, &mut proof.steps, &mut proof.words, pair) {
+    match split_of(n, &proof.trail, numbers) {
+        Some(pair) => match enter(n, &mut proof.steps, &mut proof.trail, pair) {
             Ok(()) => Ok(true),
             Err(_) => Err(Verdict::Memory),
         },
@@ -147,9 +145,10 @@ fn leaf_step(
     requires kept { IsProof weights.now.size proof.old }
     ensures kept { IfOk result (λ more. IsTrue more → IsProof weights.now.size proof.new) }
     ensures cuts { proof.new.cuts ≡ proof.old.cuts }
-    ensures passes { IfOk result (λ more. Passes weights.now proof.old.cuts.items bound (place proof.old) number words.Leaf numbers.now (pending_if more (place proof.new))) }
+    ensures passes { IfOk result (λ more. Passes weights.now proof.old.cuts.items bound proof.old.trail.fixed (place proof.old) number words.Leaf numbers.now (pending_if more (place proof.new))) }
     ensures covers { IfOk result (λ more. StaysCovered weights.now bound (pending (place proof.old)) (pending_if more (place proof.new))) }
-    ensures fails { IfErr result (Fails weights.now proof.old.cuts.items bound (place proof.old) number words.Leaf numbers.now) }
+    ensures fails { IfErr result (Fails weights.now proof.old.cuts.items bound proof.old.trail.fixed (place proof.old) number words.Leaf numbers.now) }
+    ensures room { IsRoomOf weights.now.size proof.new }
     ensures bounded { (C : Matrix) → IfErr result (IsBounded C) }
     ensures cause { (before now : ℕ) → IfErr result (VerdictCause before now) }
 {
@@ -181,21 +180,22 @@ fn shown_step(
     ensures cuts { proof.new.cuts ≡ proof.old.cuts }
     ensures passes { IfOk result (λ more. (next : List (List Pair) → CheckAnswer) → shown weights.now proof.old scale terms.now bound number next ≡ next (pending_if more (place proof.new))) }
     ensures covers { IfOk result (λ more. StaysCovered weights.now bound (pending (place proof.old)) (pending_if more (place proof.new))) }
-    ensures fails { IfErr result (λ v. (next : List (List Pair) → CheckAnswer) → IsVerdict (shown weights.now proof.old scale terms.now bound number next) v) }
+    ensures fails { IfErr result (λ v. (next : List (List Pair) → CheckAnswer) → Says (shown weights.now proof.old scale terms.now bound number next) v) }
+    ensures room { IsRoomOf weights.now.size proof.new }
     ensures bounded { (C : Matrix) → IfErr result (IsBounded C) }
     ensures cause { (before now : ℕ) → IfErr result (VerdictCause before now) }
 {
     let upper = upper(
         weights,
         proof.cuts.as_slice(),
-        proof.words.as_slice(),
+        &proof.trail,
         &mut proof.charges,
         scale,
         terms,
     );
     let limit = limit_of(scale, bound);
     if upper < limit {
-        Ok(leave(weights.n(), &mut proof.steps, &mut proof.words))
+        Ok(leave(weights.n(), &mut proof.steps, &mut proof.trail))
     } else {
         Err(rejected(number, Reason::High { upper, limit }))
     }

@@ -1,12 +1,11 @@
-// The walk down the tree and back: the path to the node whose line is due, and what it leads to.
-ghost use Rattle.std.specs.Prelude.{◌≡◌, ◌<◌, ◌*◌, ◌↔◌, ℕ, [], ◌∷◌, ◌++◌, List, IfOk, OnOk, OnErr, IsTrue, length, true, false, MatchBool};
-ghost use Rattle.lop_model.specs.declared.pair.Pair.{Pair};
-ghost use Rattle.lop_certtext.specs.Chains.{reversed};
+// The walk down the tree and back, with the subtrees that are still to come.
+ghost use Rattle.std.specs.Prelude.{◌≡◌, ◌<◌, [], ◌∷◌, ◌++◌, List, OnOk, IsTrue, true, MatchBool};
+ghost use Rattle.lop_model.specs.Fixings.{IsUndecided};
+ghost use Rattle.lop_certtext.specs.Tree.{reversed};
 ghost use Rattle.lop_certtext.specs.Answer.{may_split};
-ghost use Rattle.lop_check.specs.Table.{row_words, IsTableOf};
-ghost use Rattle.lop_check.specs.Standing.{Standing, standing, stepped, pending, pending_if, IsFreePair, AreFree, IsWalk};
+ghost use Rattle.lop_check.specs.Standing.{standing, stepped, pending, pending_if, IsWalk};
 
-use crate::table::{at_table, clear, link};
+use crate::trail::Trail;
 use lop_model::Pair;
 use std::alloc::AllocError;
 
@@ -27,38 +26,38 @@ fn reverse(pair: Pair) -> Pair
     }
 }
 
-// Whether the pair may be split here.
-pub fn may_split(n: u16, words: &[u64], pair: Pair) -> bool
-    requires first { pair.before < n }
-    requires second { pair.after < n }
-    requires table { (path : List Pair) × IsTableOf n words.now path }
-    ensures { (path : List Pair) → IsTableOf n words.now path → result ≡ may_split path pair }
+// Whether the pair may be split here. O(1).
+pub fn may_split(trail: &Trail, pair: Pair) -> bool
+    requires first { pair.before < trail.now.size }
+    requires second { pair.after < trail.now.size }
+    ensures { result ≡ may_split trail.now.fixed pair }
 {
     pair.before != pair.after
-        && !at_table(words, n as usize, pair.before as usize, pair.after as usize)
-        && !at_table(words, n as usize, pair.after as usize, pair.before as usize)
+        && !trail.is_fixed(pair.before, pair.after)
+        && !trail.is_fixed(pair.after, pair.before)
 }
 
-// One step down, to the first child. O(n² / 64).
-pub fn enter(n: u16, steps: &mut Vec<Step>, words: &mut [u64], pair: Pair) -> Result<(), AllocError>
-    requires walk { IsWalk n steps.old.items words.old }
-    requires free { IsFreePair n (standing steps.old.items).path pair }
+// One step down, to the first child.
+pub fn enter(n: u16, steps: &mut Vec<Step>, trail: &mut Trail, pair: Pair) -> Result<(), AllocError>
+    requires walk { IsWalk n steps.old.items trail.old }
+    requires undecided { IsUndecided n trail.old.path pair.before pair.after }
     ensures at { OnOk result (standing steps.new.items ≡ stepped (standing steps.old.items) (record { pair = pair; reverse_due = true })) }
-    ensures walk { OnOk result (IsWalk n steps.new.items words.new) }
+    ensures walk { OnOk result (IsWalk n steps.new.items trail.new) }
+    ensures size { trail.new.size ≡ n }
 {
     steps.push(Step {
         pair,
         reverse_due: true,
     })?;
-    link(words, n as usize, pair.before as usize, pair.after as usize);
+    trail.descend(pair);
     Ok(())
 }
 
 // Takes back the steps behind the last whose reverse is still to come. Whether there is one.
-fn drop_done(n: u16, steps: &mut Vec<Step>) -> bool
-    requires { AreFree n steps.old.items (length steps.old.items) }
+fn drop_done(n: u16, steps: &mut Vec<Step>, trail: &mut Trail) -> bool
+    requires { IsWalk n steps.old.items trail.old }
     ensures others { (standing steps.new.items).others ≡ (standing steps.old.items).others }
-    ensures free { AreFree n steps.new.items (length steps.new.items) }
+    ensures walk { IsWalk n steps.new.items trail.new }
     ensures last { MatchBool result ((front : List Step) × (last : Step) × (steps.new.items ≡ front ++ last ∷ []) × (last.reverse_due ≡ true)) (steps.new.items ≡ []) }
 {
     while let Some(last) = steps.last() {
@@ -66,16 +65,17 @@ fn drop_done(n: u16, steps: &mut Vec<Step>) -> bool
             return true;
         }
         steps.pop();
+        trail.ascend();
     }
     false
 }
 
 // Turns the last step round: its reverse is kept from now on.
-fn turn(n: u16, steps: &mut Vec<Step>)
-    requires free { AreFree n steps.old.items (length steps.old.items) }
+fn turn(n: u16, steps: &mut Vec<Step>, trail: &mut Trail)
+    requires walk { IsWalk n steps.old.items trail.old }
     requires last { (front : List Step) × (last : Step) × (steps.old.items ≡ front ++ last ∷ []) × (last.reverse_due ≡ true) }
     ensures others { pending (standing steps.new.items) ≡ (standing steps.old.items).others }
-    ensures free { AreFree n steps.new.items (length steps.new.items) }
+    ensures walk { IsWalk n steps.new.items trail.new }
 {
     let last = steps.len() - 1;
     let pair = reverse(steps[last].pair);
@@ -83,36 +83,20 @@ fn turn(n: u16, steps: &mut Vec<Step>)
         pair,
         reverse_due: false,
     };
+    trail.ascend();
+    trail.descend(pair);
 }
 
-// Makes the table anew, pair by pair. O(n² / 64) a pair.
-fn rebuild(n: u16, steps: &[Step], words: &mut [u64])
-    requires free { AreFree n steps.now (length steps.now) }
-    requires table { (path : List Pair) × IsTableOf n words.old path }
-    ensures { IsTableOf n words.new (standing steps.now).path }
-{
-    clear(words);
-    for step in steps {
-        link(
-            words,
-            n as usize,
-            step.pair.before as usize,
-            step.pair.after as usize,
-        );
-    }
-}
-
-// A subtree has ended. On to the next one, if there is one. O(n² / 64) for each pair of its path.
-pub fn leave(n: u16, steps: &mut Vec<Step>, words: &mut [u64]) -> bool
-    requires { IsWalk n steps.old.items words.old }
+// A subtree has ended. On to the next one, if there is one.
+pub fn leave(n: u16, steps: &mut Vec<Step>, trail: &mut Trail) -> bool
+    requires { IsWalk n steps.old.items trail.old }
     ensures next { pending_if result (standing steps.new.items) ≡ (standing steps.old.items).others }
-    ensures walk { IsTrue result → IsWalk n steps.new.items words.new }
-    ensures table { (path : List Pair) × IsTableOf n words.new path }
+    ensures walk { IsTrue result → IsWalk n steps.new.items trail.new }
+    ensures size { trail.new.size ≡ n }
 {
-    if !drop_done(n, steps) {
+    if !drop_done(n, steps, trail) {
         return false;
     }
-    turn(n, steps);
-    rebuild(n, steps.as_slice(), words);
+    turn(n, steps, trail);
     true
 }

@@ -3,10 +3,11 @@ ghost use Rattle.std.specs.Prelude.{◌≡◌, ◌≤◌, ◌^◌, ℕ, List};
 ghost use Rattle.lop_desk.specs.Desk.{IsOpen};
 ghost use Rattle.lop_desk.specs.Whole.{OnlyOpens};
 ghost use Rattle.lop_model.specs.Matrix.{weight};
+ghost use Rattle.lop_model.specs.Closing.{closed};
 ghost use Rattle.lop_certtext.specs.Answer.{cuts_step, bound_step, value_step, order_step, objects_step};
 ghost use Rattle.lop_check.specs.Verdict.{IsBounded, IsWeighed, VerdictCause};
 ghost use Rattle.lop_check.specs.Walk.{Answers, version_step};
-ghost use Rattle.lop_check.specs.Nodes.{IsFresh};
+ghost use Rattle.lop_check.specs.Nodes.{IsFresh, IsRoomOf};
 
 use crate::cuts::cuts_left_step;
 use crate::node::Proof;
@@ -28,6 +29,7 @@ pub fn version_step<D: Desk>(
     requires limit { reading.old.lines.count ≤ 2 ^ 40 }
     requires fresh { IsFresh weights.now.size proof.old }
     ensures answer { Answers (D.told desk.old) reading.old.lines (version_step weights.now) result }
+    ensures room { IsRoomOf weights.now.size proof.new }
     ensures bounded { IsBounded weights.now result }
     ensures world { OnlyOpens (D.told desk.old) (D.told desk.new) }
     ensures later { D.faults desk.old ≤ D.faults desk.new }
@@ -49,7 +51,8 @@ fn objects_step<D: Desk>(
     requires opened { IsOpen (D.told desk.old) }
     requires limit { reading.old.lines.count ≤ 2 ^ 40 }
     requires fresh { IsFresh weights.now.size proof.old }
-    ensures answer { Answers (D.told desk.old) reading.old.lines (objects_step weights.now) result }
+    ensures answer { Answers (D.told desk.old) reading.old.lines (objects_step closed weights.now) result }
+    ensures room { IsRoomOf weights.now.size proof.new }
     ensures bounded { IsBounded weights.now result }
     ensures world { OnlyOpens (D.told desk.old) (D.told desk.new) }
     ensures later { D.faults desk.old ≤ D.faults desk.new }
@@ -77,7 +80,8 @@ fn order_step<D: Desk>(
     requires opened { IsOpen (D.told desk.old) }
     requires limit { reading.old.lines.count ≤ 2 ^ 40 }
     requires fresh { IsFresh weights.now.size proof.old }
-    ensures answer { Answers (D.told desk.old) reading.old.lines (order_step weights.now) result }
+    ensures answer { Answers (D.told desk.old) reading.old.lines (order_step closed weights.now) result }
+    ensures room { IsRoomOf weights.now.size proof.new }
     ensures bounded { IsBounded weights.now result }
     ensures world { OnlyOpens (D.told desk.old) (D.told desk.new) }
     ensures later { D.faults desk.old ≤ D.faults desk.new }
@@ -108,7 +112,8 @@ fn value_step<D: Desk>(
     requires limit { reading.old.lines.count ≤ 2 ^ 40 }
     requires fresh { IsFresh weights.now.size proof.old }
     requires weighed { IsWeighed weights.now found }
-    ensures answer { (s : List ℕ) → weight weights.now s ≡ found → Answers (D.told desk.old) reading.old.lines (value_step weights.now s) result }
+    ensures answer { (s : List ℕ) → weight weights.now s ≡ found → Answers (D.told desk.old) reading.old.lines (value_step closed weights.now s) result }
+    ensures room { IsRoomOf weights.now.size proof.new }
     ensures bounded { IsBounded weights.now result }
     ensures world { OnlyOpens (D.told desk.old) (D.told desk.new) }
     ensures later { D.faults desk.old ≤ D.faults desk.new }
@@ -139,7 +144,8 @@ fn bound_step<D: Desk>(
     requires limit { reading.old.lines.count ≤ 2 ^ 40 }
     requires fresh { IsFresh weights.now.size proof.old }
     requires weighed { IsWeighed weights.now value }
-    ensures answer { Answers (D.told desk.old) reading.old.lines (bound_step weights.now value) result }
+    ensures answer { Answers (D.told desk.old) reading.old.lines (bound_step closed weights.now value) result }
+    ensures room { IsRoomOf weights.now.size proof.new }
     ensures bounded { IsBounded weights.now result }
     ensures world { OnlyOpens (D.told desk.old) (D.told desk.new) }
     ensures later { D.faults desk.old ≤ D.faults desk.new }
@@ -167,7 +173,8 @@ fn cuts_step<D: Desk>(
     requires limit { reading.old.lines.count ≤ 2 ^ 40 }
     requires fresh { IsFresh weights.now.size proof.old }
     requires weighed { IsWeighed weights.now value }
-    ensures answer { Answers (D.told desk.old) reading.old.lines (cuts_step weights.now value bound) result }
+    ensures answer { Answers (D.told desk.old) reading.old.lines (cuts_step closed weights.now value bound) result }
+    ensures room { IsRoomOf weights.now.size proof.new }
     ensures bounded { IsBounded weights.now result }
     ensures world { OnlyOpens (D.told desk.old) (D.told desk.new) }
     ensures later { D.faults desk.old ≤ D.faults desk.new }

@@ -3,11 +3,12 @@ ghost use Rattle.std.specs.Prelude.{◌≡◌, ◌≤◌, ◌+◌, ◌^◌, ℕ,
 ghost use Rattle.lop_desk.specs.Desk.{IsOpen};
 ghost use Rattle.lop_desk.specs.Whole.{OnlyOpens};
 ghost use Rattle.lop_model.specs.Matrix.{Matrix};
+ghost use Rattle.lop_model.specs.Closing.{closed};
 ghost use Rattle.lop_certtext.specs.Answer.{end_step, tree_step};
 ghost use Rattle.lop_check.specs.Verdict.{IsBounded, IsWeighed, VerdictCause};
 ghost use Rattle.lop_check.specs.Walk.{Answers, Advances, Carries};
 ghost use Rattle.lop_check.specs.Standing.{pending, pending_if};
-ghost use Rattle.lop_check.specs.Nodes.{IsProof, StaysCovered, place};
+ghost use Rattle.lop_check.specs.Nodes.{IsProof, IsRoomOf, StaysCovered, place};
 
 use crate::node::{Proof, node_step};
 use crate::reading::{Reading, rejected};
@@ -35,7 +36,8 @@ pub fn tree_step<D: Desk>(
     requires root { proof.old.steps.items ≡ [] }
     requires small { first ≤ 2 ^ 40 }
     requires weighed { IsWeighed weights.now value }
-    ensures answer { Answers (D.told desk.old) reading.old.lines (tree_step weights.now proof.old.cuts.items value bound ([] ∷ []) first) result }
+    ensures answer { Answers (D.told desk.old) reading.old.lines (tree_step closed weights.now proof.old.cuts.items value bound ([] ∷ []) first) result }
+    ensures room { IsRoomOf weights.now.size proof.new }
     ensures bounded { IsBounded weights.now result }
     ensures world { OnlyOpens (D.told desk.old) (D.told desk.new) }
     ensures later { D.faults desk.old ≤ D.faults desk.new }
@@ -63,12 +65,13 @@ fn tree_line<D: Desk>(
     requires opened { IsOpen (D.told desk.old) }
     requires limit { reading.old.lines.count ≤ 2 ^ 40 }
     requires kept { IsProof weights.now.size proof.old }
-    ensures goes { IfOk result (λ more. (value : ℤ) → Carries (D.told desk.old) reading.old.lines (tree_step weights.now proof.old.cuts.items value bound (pending (place proof.old)) number) (D.told desk.new) reading.new.lines (tree_step weights.now proof.old.cuts.items value bound (pending_if more (place proof.new)) (number + 1))) }
-    ensures stops { IfErr result (λ v. (value : ℤ) → Answers (D.told desk.old) reading.old.lines (tree_step weights.now proof.old.cuts.items value bound (pending (place proof.old)) number) v) }
+    ensures goes { IfOk result (λ more. (value : ℤ) → Carries (D.told desk.old) reading.old.lines (tree_step closed weights.now proof.old.cuts.items value bound (pending (place proof.old)) number) (D.told desk.new) reading.new.lines (tree_step closed weights.now proof.old.cuts.items value bound (pending_if more (place proof.new)) (number + 1))) }
+    ensures stops { IfErr result (λ v. (value : ℤ) → Answers (D.told desk.old) reading.old.lines (tree_step closed weights.now proof.old.cuts.items value bound (pending (place proof.old)) number) v) }
     ensures advances { OnOk result (IfSome (D.told desk.old) (λ _. Advances reading.old.lines reading.new.lines)) }
     ensures kept { IfOk result (λ more. IsTrue more → IsProof weights.now.size proof.new) }
     ensures cuts { proof.new.cuts ≡ proof.old.cuts }
     ensures covers { IfOk result (λ more. StaysCovered weights.now bound (pending (place proof.old)) (pending_if more (place proof.new))) }
+    ensures room { IsRoomOf weights.now.size proof.new }
     ensures bounded { (C : Matrix) → IfErr result (IsBounded C) }
     ensures opened { IsOpen (D.told desk.new) }
     ensures limit { OnOk result (reading.new.lines.count ≤ 2 ^ 40) }

@@ -1,16 +1,14 @@
 // The number U of a leaf under the path.
-ghost use Rattle.std.specs.Prelude.{◌≡◌, ◌≤◌, ◌<◌, ◌+◌, ◌-◌, ◌*◌, ◌^◌, ℕ, List, true, length, pos, neg_ℤ, ◌≤ℤ◌, All};
-ghost use Rattle.lop_model.specs.declared.pair.Pair.{Pair};
+ghost use Rattle.std.specs.Prelude.{◌≡◌, ◌≤◌, ◌<◌, ◌+◌, ◌-◌, ◌*◌, ◌^◌, ℕ, true, length, pos, neg_ℤ, ◌≤ℤ◌, All};
 ghost use Rattle.lop_model.specs.Sums.{pair_sum};
 ghost use Rattle.lop_cuts.specs.Kind.{IsCut, FitsCut};
 ghost use Rattle.lop_cuts.specs.Lagrangian.{lagrangian_value};
-ghost use Rattle.lop_certtext.specs.Chains.{closure_below};
 ghost use Rattle.lop_certtext.specs.LeafLine.{are_rising, terms_of, terms_in};
-ghost use Rattle.lop_check.specs.Charges.{AreSmall, table_entry, table_value};
-ghost use Rattle.lop_check.specs.Table.{row_words, IsTableOf};
+ghost use Rattle.lop_check.specs.Charges.{AreSmall, table_entry};
+ghost use Rattle.lop_model.specs.Bound.{pair_value};
 
 use crate::charge::{charge_terms, clear_charges};
-use crate::table::at_table;
+use crate::trail::Trail;
 use lop_cuts::Cut;
 use lop_model::Weights;
 
@@ -29,20 +27,19 @@ fn reduced_at(weights: &Weights, scale: u32, charges: &[u128], a: u16, b: u16) -
 }
 
 // What two objects give: the reduced entry of the way in which they are fixed, or the greater one.
-fn value_at(weights: &Weights, words: &[u64], scale: u32, charges: &[u128], i: u16, j: u16) -> i128
+fn value_at(weights: &Weights, trail: &Trail, scale: u32, charges: &[u128], i: u16, j: u16) -> i128
     requires first { i < weights.now.size }
     requires second { j < weights.now.size }
     requires scale { scale ≤ 65536 }
-    requires whole { length words.now ≡ weights.now.size * row_words weights.now.size }
+    requires same_n { trail.now.size ≡ weights.now.size }
     requires small { AreSmall weights.now.size charges.now }
-    ensures value { result ≡ table_value weights.now words.now scale charges.now i j }
+    ensures value { result ≡ pair_value trail.now.fixed (table_entry weights.now scale charges.now) i j }
     ensures low { neg_ℤ (pos (2 ^ 80)) ≤ℤ result }
     ensures high { result ≤ℤ pos (2 ^ 80) }
 {
-    let n = weights.n() as usize;
-    if at_table(words, n, i as usize, j as usize) {
+    if trail.is_fixed(i, j) {
         reduced_at(weights, scale, charges, i, j)
-    } else if at_table(words, n, j as usize, i as usize) {
+    } else if trail.is_fixed(j, i) {
         reduced_at(weights, scale, charges, j, i)
     } else {
         reduced_at(weights, scale, charges, i, j).max(reduced_at(weights, scale, charges, j, i))
@@ -50,18 +47,18 @@ fn value_at(weights: &Weights, words: &[u64], scale: u32, charges: &[u128], i: u
 }
 
 // What all pairs of objects give, added up. O(n²).
-fn pair_values(weights: &Weights, words: &[u64], scale: u32, charges: &[u128]) -> i128
+fn pair_values(weights: &Weights, trail: &Trail, scale: u32, charges: &[u128]) -> i128
     requires scale { scale ≤ 65536 }
-    requires whole { length words.now ≡ weights.now.size * row_words weights.now.size }
+    requires same_n { trail.now.size ≡ weights.now.size }
     requires small { AreSmall weights.now.size charges.now }
-    ensures sum { result ≡ pair_sum weights.now.size (table_value weights.now words.now scale charges.now) }
+    ensures sum { result ≡ pair_sum weights.now.size (pair_value trail.now.fixed (table_entry weights.now scale charges.now)) }
     ensures low { neg_ℤ (pos (2 ^ 98)) ≤ℤ result }
     ensures high { result ≤ℤ pos (2 ^ 98) }
 {
     let mut sum: i128 = 0;
     for j in 0..weights.n() {
         for i in 0..j {
-            sum += value_at(weights, words, scale, charges, i, j);
+            sum += value_at(weights, trail, scale, charges, i, j);
         }
     }
     sum
@@ -71,7 +68,7 @@ fn pair_values(weights: &Weights, words: &[u64], scale: u32, charges: &[u128]) -
 pub fn upper(
     weights: &Weights,
     cuts: &[Cut],
-    words: &[u64],
+    trail: &Trail,
     charges: &mut [u128],
     scale: u32,
     numbers: &[i64],
@@ -81,9 +78,9 @@ pub fn upper(
     requires fit { All (FitsCut weights.now.size) cuts.now }
     requires even { (told : ℕ) × (told ≤ 4096) × (length numbers.now ≡ 2 * told) }
     requires rising { are_rising 0 (length cuts.now) (terms_of numbers.now) ≡ true }
-    requires whole { length words.now ≡ weights.now.size * row_words weights.now.size }
+    requires same_n { trail.now.size ≡ weights.now.size }
     requires square { length charges.old ≡ weights.now.size * weights.now.size }
-    ensures value { (path : List Pair) → IsTableOf weights.now.size words.now path → result ≡ lagrangian_value weights.now (closure_below weights.now.size path) scale (terms_in cuts.now (terms_of numbers.now)) }
+    ensures value { result ≡ lagrangian_value weights.now trail.now.fixed scale (terms_in cuts.now (terms_of numbers.now)) }
     ensures square { length charges.new ≡ length charges.old }
     ensures low { neg_ℤ (pos (2 ^ 99)) ≤ℤ result }
     ensures high { result ≤ℤ pos (2 ^ 99) }
@@ -91,5 +88,5 @@ pub fn upper(
     let n = weights.n() as usize;
     clear_charges(charges, n);
     let sides = charge_terms(cuts, numbers, numbers.len() / 2, charges, n);
-    sides as i128 + pair_values(weights, words, scale, charges)
+    sides as i128 + pair_values(weights, trail, scale, charges)
 }

@@ -1,10 +1,10 @@
 -- There is a function that gives each list of pairs its closure.
-use Rattle.std.proofs.Common.{◌≡◌, ℕ, ◌+◌, ◌<◌, Bool, true, false, eqb, ◌&&◌, ◌||◌, List, [], ◌∷◌, ◌++◌, append_assoc, append-nil, refl, sym, ◌∙◌, ap, subst, ◌↔◌, arith}
+use Rattle.std.proofs.Common.{◌≡◌, ℕ, suc, ◌+◌, ◌<◌, Bool, true, false, eqb, ◌&&◌, ◌||◌, List, [], ◌∷◌, ◌++◌, length, get_or, append_assoc, append-nil, refl, sym, ◌∙◌, ap, subst, ◌↔◌, arith}
 use Rattle.std.specs.Prelude.{IsTrue, fold}
 use Rattle.std.proofs.lemmas.Bool.{eqb-true}
 use Rattle.std.proofs.lemmas.List.Sums.{fold_push}
 use Rattle.lop_model.specs.declared.pair.Pair.{Pair}
-use Rattle.lop_model.specs.Fixings.{has_pair, LeadsTo, one_pair, pair_then, IsClosure}
+use Rattle.lop_model.specs.Fixings.{has_pair, LeadsTo, one_pair, pair_then, IsClosure, IsBranchingPath}
 use Rattle.lop_model.specs.Related.{pairs_of}
 use Rattle.lop_model.specs.Closing.{AreClosures, linked, leads, above_all, closed}
 use Rattle.lop_model.proofs.ClosureLemmas.{closed_more, no_chain}
@@ -44,6 +44,19 @@ pair_below (p ∷ F) a b t =
 chain_below : (F : List Pair) (a b : ℕ) → LeadsTo F a b → (a < above_all F) × (b < above_all F)
 chain_below F a b (one_pair t) = pair_below F a b t
 chain_below F a b (pair_then {c = c} t r) = ((pair_below F a _ t).0, (chain_below F _ b r).1)
+
+-- a chain of a path of branching decisions has objects below n
+path_pair_below : (n : ℕ) (path : List Pair) (a b : ℕ) → ((i : ℕ) (d : Pair) → i < length path → ((get_or path i d).before < n) × ((get_or path i d).after < n)) → IsTrue (has_pair path a b) → (a < n) × (b < n)
+path_pair_below n [] a b below t = absurd (cc)
+path_pair_below n (p ∷ path) a b below t =
+    below_cases n p a b path (eqb p.before a) (eqb p.after b) (below 0 p (omega arith)) (path_pair_below n path a b (λ i d l. below (suc i) d (omega arith))) refl refl t
+
+path_chain_below : (n : ℕ) (path : List Pair) → ((i : ℕ) (d : Pair) → i < length path → ((get_or path i d).before < n) × ((get_or path i d).after < n)) → (a b : ℕ) → LeadsTo path a b → (a < n) × (b < n)
+path_chain_below n path below a b (one_pair t) = path_pair_below n path a b below t
+path_chain_below n path below a b (pair_then {c = c} t r) = ((path_pair_below n path a _ below t).0, (path_chain_below n path below _ b r).1)
+
+pub chain_below-path : (n : ℕ) (path : List Pair) → IsBranchingPath n path → (a b : ℕ) → LeadsTo path a b → (a < n) × (b < n)
+chain_below-path n path h = path_chain_below n path (λ i d l. let u = h.each i d l in (u.first, u.second))
 
 pub IsClosure-closed : (F : List Pair) → IsClosure F (closed F)
 IsClosure-closed F = record {

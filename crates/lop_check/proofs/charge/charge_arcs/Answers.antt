@@ -1,7 +1,7 @@
 use Rattle.std.proofs.Common.{◌≡◌, ◌*◌, length, ◌∙◌}
 use Rattle.std.proofs.lemmas.List.{length-set}
 use Rattle.lop_model.specs.declared.pair.Pair.{Pair}
-use Rattle.lop_check.proofs.Charging.{charge_step}
+use Rattle.lop_cuts.proofs.ChargeLemmas.{charge_step}
 use Rattle.lop_check.proofs.charge.charge_arcs.Goals as goal
 
 pub loop-arc-preserved : goal.loop-arc-preserved

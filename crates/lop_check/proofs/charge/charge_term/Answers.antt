@@ -2,7 +2,8 @@ use Rattle.std.proofs.Common.{◌*◌, ◌+◌, ◌∙◌, ap, List, sym, subst,
 use Rattle.std.specs.List.{All}
 use Rattle.lop_model.specs.declared.pair.Pair.{Pair}
 use Rattle.lop_cuts.specs.Kind.{IsArcBelow}
-use Rattle.lop_check.specs.Charges.{cell, arc_count}
+use Rattle.lop_model.specs.Cells.{cell}
+use Rattle.lop_cuts.specs.Charges.{arc_count}
 use Rattle.lop_check.proofs.Charging.{side-le, once-le}
 use Rattle.lop_cuts.specs.Arcs.{arc}
 use Rattle.lop_check.proofs.charge.charge_term.Goals as goal

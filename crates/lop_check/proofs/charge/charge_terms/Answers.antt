@@ -4,7 +4,7 @@ use Rattle.std.proofs.lemmas.List.{take_all, length-map, get_or_default}
 use Rattle.lop_cuts.specs.declared.kind.CutKind.{CutKind}
 use Rattle.lop_cuts.specs.Lagrangian.{Term, right_sides}
 use Rattle.lop_certtext.specs.LeafLine.{CutTerm, cut_at, terms_of, terms_in}
-use Rattle.lop_check.specs.Charges.{HasCharges}
+use Rattle.lop_cuts.specs.Charges.{HasCharges}
 use Rattle.lop_check.proofs.Charging.{charged_more, sides_more, length-terms_of}
 use Rattle.lop_check.proofs.charge.charge_terms.Goals as goal
 

@@ -1,6 +1,7 @@
 use Rattle.std.proofs.Common.{◌≡◌, ◌≤◌, ◌+◌, ◌-◌, ◌^◌, []}
 use Rattle.lop_desk.specs.Desk.{IsOpen}
 use Rattle.lop_desk.specs.Whole.{OnlyOpens}
+use Rattle.lop_model.specs.Closing.{closed}
 use Rattle.lop_certtext.specs.Answer.{cuts_left_step}
 use Rattle.lop_check.specs.Walk.{Carries}
 use Rattle.lop_check.specs.Nodes.{IsProof}
@@ -12,7 +13,7 @@ invariant-loop-done g l = record {
   limit : l.reading.lines.count ≤ 2 ^ 40;
   kept : IsProof l.weights.size l.proof;
   root : l.proof.steps.items ≡ [];
-  so_far : Carries (g.D.Desk.told l.fn.desk) l.fn.reading.lines (cuts_left_step l.weights l.value l.bound l.count [] 7) (g.D.Desk.told l.desk) l.reading.lines (cuts_left_step l.weights l.value l.bound (l.count - l.done) l.proof.cuts.items (7 + l.done));
+  so_far : Carries (g.D.Desk.told l.fn.desk) l.fn.reading.lines (cuts_left_step closed l.weights l.value l.bound l.count [] 7) (g.D.Desk.told l.desk) l.reading.lines (cuts_left_step closed l.weights l.value l.bound (l.count - l.done) l.proof.cuts.items (7 + l.done));
   world : OnlyOpens (g.D.Desk.told l.fn.desk) (g.D.Desk.told l.desk);
   later : g.D.Desk.faults l.fn.desk ≤ g.D.Desk.faults l.desk;
 }

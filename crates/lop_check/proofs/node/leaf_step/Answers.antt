@@ -5,7 +5,7 @@ use Rattle.std.proofs.lemmas.List.{take_rest}
 use Rattle.lop_model.specs.declared.pair.Pair.{Pair}
 use Rattle.lop_certtext.specs.LeafLine.{LeafTerms, terms_of, is_leaf_row, leaf_of}
 use Rattle.lop_certtext.specs.Answer.{CheckAnswer, leaf_step}
-use Rattle.lop_check.specs.Verdict.{IsVerdict}
+use Rattle.lop_check.specs.Verdict.{Says}
 use Rattle.lop_check.specs.declared.verdict.Verdict.{Verdict}
 use Rattle.lop_check.specs.Standing.{pending, pending_if}
 use Rattle.lop_check.specs.Nodes.{place, StaysCovered}
@@ -35,8 +35,8 @@ returns-else-not-is_leaf_row-clause-passes c =
     leaf_read (length cuts) ns c.in-len2-up.len_at_least test
     ∙ ap (λ (k : ℕ). Some (record { scale = k; terms = terms_of (drop 2 ns) })) (sym scale)
     ∙ ap (λ (l : List ℤ). Some (record { scale = c.unsigned_abs-scale.result; terms = terms_of l })) (sym (take_rest ns 2)) in
-    subst (λ (o : Option LeafTerms). IfOk c.shown_step.result (λ more. (next : List (List Pair) → CheckAnswer) → leaf_step C cuts c.args.bound at.path at.others c.args.number o next ≡ next (pending_if more (place c.shown_step.new.proof)))) (sym made)
-    (subst (λ (b : ℤ). IfOk c.shown_step.result (λ more. (next : List (List Pair) → CheckAnswer) → leaf_step C cuts b at.path at.others c.args.number (Some (record { scale = c.unsigned_abs-scale.result; terms = terms_of (take (length ns - 2) (drop 2 ns)) })) next ≡ next (pending_if more (place c.shown_step.new.proof)))) (to_z-of_z w64 c.args.bound fits) c.shown_step.ensures.passes)
+    subst (λ (o : Option LeafTerms). IfOk c.shown_step.result (λ more. (next : List (List Pair) → CheckAnswer) → leaf_step C cuts c.args.bound c.args.proof.now.trail.fixed at.others c.args.number o next ≡ next (pending_if more (place c.shown_step.new.proof)))) (sym made)
+    (subst (λ (b : ℤ). IfOk c.shown_step.result (λ more. (next : List (List Pair) → CheckAnswer) → leaf_step C cuts b c.args.proof.now.trail.fixed at.others c.args.number (Some (record { scale = c.unsigned_abs-scale.result; terms = terms_of (take (length ns - 2) (drop 2 ns)) })) next ≡ next (pending_if more (place c.shown_step.new.proof)))) (to_z-of_z w64 c.args.bound fits) c.shown_step.ensures.passes)
 
 pub returns-else-not-is_leaf_row-clause-covers : goal.returns-else-not-is_leaf_row-clause-covers
 returns-else-not-is_leaf_row-clause-covers c =
@@ -66,5 +66,5 @@ returns-else-not-is_leaf_row-clause-fails c =
     leaf_read (length cuts) ns c.in-len2-up.len_at_least test
     ∙ ap (λ (k : ℕ). Some (record { scale = k; terms = terms_of (drop 2 ns) })) (sym scale)
     ∙ ap (λ (l : List ℤ). Some (record { scale = c.unsigned_abs-scale.result; terms = terms_of l })) (sym (take_rest ns 2)) in
-    subst (λ (o : Option LeafTerms). IfErr c.shown_step.result (λ (v : Verdict). (next : List (List Pair) → CheckAnswer) → IsVerdict (leaf_step C cuts c.args.bound at.path at.others c.args.number o next) v)) (sym made)
-    (subst (λ (b : ℤ). IfErr c.shown_step.result (λ (v : Verdict). (next : List (List Pair) → CheckAnswer) → IsVerdict (leaf_step C cuts b at.path at.others c.args.number (Some (record { scale = c.unsigned_abs-scale.result; terms = terms_of (take (length ns - 2) (drop 2 ns)) })) next) v)) (to_z-of_z w64 c.args.bound fits) c.shown_step.ensures.fails)
+    subst (λ (o : Option LeafTerms). IfErr c.shown_step.result (λ (v : Verdict). (next : List (List Pair) → CheckAnswer) → Says (leaf_step C cuts c.args.bound c.args.proof.now.trail.fixed at.others c.args.number o next) v)) (sym made)
+    (subst (λ (b : ℤ). IfErr c.shown_step.result (λ (v : Verdict). (next : List (List Pair) → CheckAnswer) → Says (leaf_step C cuts b c.args.proof.now.trail.fixed at.others c.args.number (Some (record { scale = c.unsigned_abs-scale.result; terms = terms_of (take (length ns - 2) (drop 2 ns)) })) next) v)) (to_z-of_z w64 c.args.bound fits) c.shown_step.ensures.fails)

@@ -1,9 +1,13 @@
-use Rattle.std.proofs.Common.{◌≡◌, ◌∷◌, [], ◌++◌, sym, subst, true}
-use Rattle.lop_check.specs.Standing.{Standing, standing}
-use Rattle.lop_check.specs.Table.{IsTableOf}
+use Rattle.std.proofs.Common.{◌≡◌, ◌∷◌, [], ◌++◌, sym, subst, ap, true, ℕ, List}
+use Rattle.lop_model.specs.declared.pair.Pair.{Pair}
+use Rattle.lop_model.specs.Fixings.{IsUndecided}
 use Rattle.lop_check.specs.declared.path.Step.{Step}
-use Rattle.lop_check.proofs.PathLemmas.{IsTableOf-link, standing-push, AreFree-push}
+use Rattle.lop_check.specs.Standing.{standing, IsWalk}
+use Rattle.lop_check.proofs.PathLemmas.{IsWalk-push}
 use Rattle.lop_check.proofs.path.enter.Goals as goal
+
+pub descend-requires : goal.descend-requires
+descend-requires c = record { undecided = rw c.requires.walk.size c.requires.undecided }
 
 pub returns-clause-walk : goal.returns-clause-walk
 returns-clause-walk c =
@@ -11,8 +15,5 @@ returns-clause-walk c =
     let old = c.args.steps.now.items in
     let s : Step = record { pair = c.args.pair; reverse_due = true } in
     let pushed : c.push.new.self.items ≡ old ++ s ∷ [] = c.in_ok-push.ensures.items in
-    let table = IsTableOf-link n c.args.words.now c.link.new.words (standing old).path c.args.pair c.requires.free.first c.requires.free.second c.requires.walk.table c.link.ensures in
-    record {
-      free = rw pushed (AreFree-push n old s c.requires.walk.free c.requires.free);
-      table = rw pushed (subst (λ (t : Standing). IsTableOf n c.link.new.words t.path) (sym (standing-push old s)) table);
-    }
+    let u = subst (λ (F : List Pair). IsUndecided n F c.args.pair.before c.args.pair.after) c.requires.walk.path c.requires.undecided in
+    rw pushed (IsWalk-push n old s c.args.trail.now c.descend.new.self c.requires.walk u c.descend.ensures.size c.descend.ensures.path c.descend.ensures.closure)

@@ -2,7 +2,7 @@ use Rattle.std.proofs.Common.{◌≡◌, ◌+◌, ◌*◌, ◌^◌, ◌≤◌, �
 use Rattle.std.specs.Int.{w64, w128}
 use Rattle.std.proofs.lemmas.Int.{to_z-of_z, to_z_pos}
 use Rattle.lop_model.specs.Matrix.{entry}
-use Rattle.lop_check.specs.Charges.{cell}
+use Rattle.lop_model.specs.Cells.{cell}
 use Rattle.lop_check.proofs.Reduced.{Computed, computed}
 use Rattle.lop_check.proofs.upper.reduced_at.Goals as goal
 

@@ -3,7 +3,7 @@ use Rattle.std.specs.Int.{w128}
 use Rattle.std.proofs.lemmas.Int.{to_z-of_z, to_z_pos}
 use Rattle.lop_cuts.specs.Lagrangian.{right_sides}
 use Rattle.lop_certtext.specs.LeafLine.{terms_of, terms_in}
-use Rattle.lop_check.specs.Charges.{HasCharges}
+use Rattle.lop_cuts.specs.Charges.{HasCharges}
 use Rattle.lop_check.proofs.Reduced.{whole_value, fits_wide}
 use Rattle.lop_check.proofs.upper.upper.Goals as goal
 
@@ -11,7 +11,7 @@ pub pair_values-requires-clause-small : goal.pair_values-requires-clause-small
 pair_values-requires-clause-small c = search rules
 
 pub returns-clause-value : goal.returns-clause-value
-returns-clause-value c path table =
+returns-clause-value c =
     let C = c.args.weights.now in
     let terms = terms_in c.args.cuts.now (terms_of c.args.numbers.now) in
     let sides = c.charge_terms-sides.result in
@@ -25,4 +25,4 @@ returns-clause-value c path table =
     ∙ to_z-of_z w128 (pos sides +ℤ pairs) (fits_wide sides pairs c.charge_terms-sides.ensures.few c.pair_values.ensures.low c.pair_values.ensures.high)
     ∙ ap (λ k. pos k +ℤ pairs) c.charge_terms-sides.ensures.sides
     ∙ ap (λ x. pos (right_sides terms) +ℤ x) c.pair_values.ensures.sum
-    ∙ whole_value C path c.args.words.now c.args.scale terms charges table has
+    ∙ whole_value C c.args.trail.now.fixed c.args.scale terms charges has

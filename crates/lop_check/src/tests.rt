@@ -156,11 +156,26 @@ fn a_fence_and_two_wrong_ladders(rt: HostRuntime) -> Result<(), Fail> {
     Ok(())
 }
 
+// A path is left and another is taken: what the first fixed is open again.
 #[test]
-fn a_tree_of_three_leaves(rt: HostRuntime) -> Result<(), Fail> {
-    let text =
-        "lopcert 1\nobjects 3\norder 1 2 3\nvalue 4\nbound 4\ncuts 0\nsplit 1 2\nsplit 2 3\nleaf 1 0\nleaf 1 0\nleaf 1 0\nend\n";
+fn trees_of_three_and_four_leaves(rt: HostRuntime) -> Result<(), Fail> {
     let accepted = Verdict::Accepted { value: 4, bound: 4 };
-    assert_eq!(rt; verdict(rt.alloc(), text)?, accepted);
+    let cases = [
+        ("leaf 1 0\nend\n", accepted),
+        ("split 3 1\nleaf 1 0\nleaf 1 0\nend\n", accepted),
+        ("split 2 3\nleaf 1 0\nleaf 1 0\nend\n", accepted),
+        (
+            "split 2 1\nleaf 1 0\nleaf 1 0\nend\n",
+            rejected(11, Reason::SplitLine),
+        ),
+    ];
+    for (lines, expected) in cases {
+        let mut text = String::from_str(
+            rt.alloc(),
+            "lopcert 1\nobjects 3\norder 1 2 3\nvalue 4\nbound 4\ncuts 0\nsplit 1 2\nsplit 2 3\nleaf 1 0\nleaf 1 0\n",
+        )?;
+        text.push_str(lines)?;
+        assert_eq!(rt; verdict(rt.alloc(), &text)?, expected, "at {lines}");
+    }
     Ok(())
 }

@@ -1,0 +1,63 @@
+ghost use Rattle.std.specs.Prelude.{◌≡◌, IsTrue};
+use crate::{BasisRoom, Pivot, Solved};
+use std::test::Fail;
+
+// The answer of a pivot on one row, and the entry where it may be read.
+fn pivoted(room: &mut BasisRoom, number: i64) -> (Pivot, Option<i64>)
+    requires usable { IsTrue room.old.usable }
+    requires one_row { room.old.rows ≡ 1 }
+{
+    match room.pivot(0, &[number]) {
+        Pivot::Done => (Pivot::Done, Some(room.entry(0, 0))),
+        Pivot::TooSmall(entry) => (Pivot::TooSmall(entry), Some(room.entry(0, 0))),
+        Pivot::Overflow(i, j) => (Pivot::Overflow(i, j), None),
+    }
+}
+
+#[test]
+fn pivots_of_one_row(rt: HostRuntime) -> Result<(), Fail> {
+    let mut room = BasisRoom::new(rt.alloc(), 1)?;
+    let cases = [
+        (8_589_934_592, Pivot::Done, 2_147_483_648),
+        (4_095, Pivot::TooSmall(4_095), 4_294_967_296),
+        (-4_095, Pivot::TooSmall(-4_095), 4_294_967_296),
+        (4_096, Pivot::Done, 4_503_599_627_370_496),
+        (-12_884_901_888, Pivot::Done, -1_431_655_765),
+    ];
+    for (number, answer, entry) in cases {
+        room.reset(1);
+        assert_eq!(rt; pivoted(&mut room, number), (answer, Some(entry)));
+    }
+    assert_eq!(rt; (room.done(), room.refused()), (3, 2));
+    room.recount();
+    assert_eq!(rt; (room.done(), room.refused()), (0, 0));
+    Ok(())
+}
+
+#[test]
+fn the_second_pivot_overflows(rt: HostRuntime) -> Result<(), Fail> {
+    let mut room = BasisRoom::new(rt.alloc(), 1)?;
+    match room.pivot(0, &[4_096]) {
+        Pivot::Done => assert_eq!(rt; pivoted(&mut room, 4_096), (Pivot::Overflow(0, 0), None)),
+        _ => assert!(rt; false, "the first pivot is done"),
+    }
+    assert_eq!(rt; (room.done(), room.refused()), (1, 1));
+    Ok(())
+}
+
+// Rows (1, 0) and (-1/2, 1/2), in units of 2^-32, from a pivot at row 1.
+#[test]
+fn solves_of_two_rows(rt: HostRuntime) -> Result<(), Fail> {
+    let mut room = BasisRoom::new(rt.alloc(), 2)?;
+    let mut out = [0; 2];
+    match room.pivot(0, &[4_294_967_296, 3]) {
+        Pivot::Done => {
+            assert_eq!(rt; room.solve_row(&[1, 1], &mut out), Solved::Done);
+            assert_eq!(rt; out, [1, 1]);
+            assert_eq!(rt; room.solve_column(&[4_294_967_296, 1], &mut out), Solved::Done);
+            assert_eq!(rt; out, [4_294_967_296, -2]);
+        }
+        _ => assert!(rt; false, "the pivot is done"),
+    }
+    Ok(())
+}

@@ -45,9 +45,9 @@ first_in_pivot_row t n r column j row h = record {
   column = h.column;
   leaves = λ fits. h.leaves (subst (FitsSigned w64) (new-pivot_row t n r column j) fits);
   before = λ k l m c before. ⊎_elim
-    (λ earlier. let none = turn-pivot_row r in absurd (omega arith))
-    (λ same. subst (λ (x : ℕ). FitsSigned w64 (new_cell t n r column x l)) (sym same.0) (subst (FitsSigned w64) (sym (new-pivot_row t n r column l)) (h.before l same.1)))
-    before;
+      (λ earlier. let none = turn-pivot_row r in absurd (omega arith))
+      (λ same. subst (λ (x : ℕ). FitsSigned w64 (new_cell t n r column x l)) (sym same.0) (subst (FitsSigned w64) (sym (new-pivot_row t n r column l)) (h.before l same.1)))
+      before;
 }
 
 -- a number of another row leaves 64 bits
@@ -61,8 +61,8 @@ first_elsewhere t u n r column i j h f =
       before = λ k l m c before. elim (cases_eq k r) [
         | inl e ↦ subst (λ (x : ℕ). FitsSigned w64 (new_cell t n r column x l)) (sym e) (subst (FitsSigned w64) (sym (new-pivot_row t n r column l)) (h.fit l c))
         | inr o ↦ ⊎_elim
-          (λ earlier. let turns = turn-other r k o in let less : k < i = omega arith in subst (FitsSigned w64) (new-other t u n r column k l h m c o) (f.rows_before k l less c o))
-          (λ same. subst (λ (x : ℕ). FitsSigned w64 (new_cell t n r column x l)) (sym same.0) (subst (FitsSigned w64) (new-other t u n r column i l h f.row c f.other) (f.before l same.1)))
-          before
+            (λ earlier. let turns = turn-other r k o in let less : k < i = omega arith in subst (FitsSigned w64) (new-other t u n r column k l h m c o) (f.rows_before k l less c o))
+            (λ same. subst (λ (x : ℕ). FitsSigned w64 (new_cell t n r column x l)) (sym same.0) (subst (FitsSigned w64) (new-other t u n r column i l h f.row c f.other) (f.before l same.1)))
+            before
       ];
     }

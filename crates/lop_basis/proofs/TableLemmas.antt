@@ -33,16 +33,16 @@ diagonal_more t n i whole row h a b l m =
     elim (cases_eq a i) [
       | inl e ↦ elim (cases_eq b i) [
         | inl f ↦
-          let test : (a == b && nat_lt a (i + 1)) ≡ true = grind (arith, nat_tests) in
-          ap (λ k. cell (set t (i * n + i) (pos (2 ^ 32))) n k b) e
-          ∙ ap (λ k. cell (set t (i * n + i) (pos (2 ^ 32))) n i k) f
-          ∙ cell_written t n i i (pos (2 ^ 32)) whole row row
-          ∙ sym (choice (a == b && nat_lt a (i + 1)) true (pos (2 ^ 32)) (pos 0) test)
+            let test : (a == b && nat_lt a (i + 1)) ≡ true = grind (arith, nat_tests) in
+            ap (λ k. cell (set t (i * n + i) (pos (2 ^ 32))) n k b) e
+            ∙ ap (λ k. cell (set t (i * n + i) (pos (2 ^ 32))) n i k) f
+            ∙ cell_written t n i i (pos (2 ^ 32)) whole row row
+            ∙ sym (choice (a == b && nat_lt a (i + 1)) true (pos (2 ^ 32)) (pos 0) test)
         | inr g ↦
-          let test : (a == b && nat_lt a i) ≡ (a == b && nat_lt a (i + 1)) = grind (arith, nat_tests) in
-          cell_elsewhere t n i i a b (pos (2 ^ 32)) row m (λ _ same. g same) ∙ h a b l m ∙ choice _ _ (pos (2 ^ 32)) (pos 0) test
+            let test : (a == b && nat_lt a i) ≡ (a == b && nat_lt a (i + 1)) = grind (arith, nat_tests) in
+            cell_elsewhere t n i i a b (pos (2 ^ 32)) row m (λ _ same. g same) ∙ h a b l m ∙ choice _ _ (pos (2 ^ 32)) (pos 0) test
       ]
       | inr d ↦
-        let test : (a == b && nat_lt a i) ≡ (a == b && nat_lt a (i + 1)) = grind (arith, nat_tests) in
-        cell_elsewhere t n i i a b (pos (2 ^ 32)) row m (λ same _. d same) ∙ h a b l m ∙ choice _ _ (pos (2 ^ 32)) (pos 0) test
+          let test : (a == b && nat_lt a i) ≡ (a == b && nat_lt a (i + 1)) = grind (arith, nat_tests) in
+          cell_elsewhere t n i i a b (pos (2 ^ 32)) row m (λ same _. d same) ∙ h a b l m ∙ choice _ _ (pos (2 ^ 32)) (pos 0) test
     ]

@@ -62,7 +62,14 @@ fn divide_row(cells: &mut [i64], n: usize, row: usize, column: &[i64]) -> Option
 }
 
 /// An entry of another row less the column's entry times the one of the pivot row. O(1).
-fn difference_at(cells: &[i64], n: usize, pivot_row: usize, column: &[i64], row: usize, j: usize) -> i128
+fn difference_at(
+    cells: &[i64],
+    n: usize,
+    pivot_row: usize,
+    column: &[i64],
+    row: usize,
+    j: usize,
+) -> i128
     requires square { length cells.now ≡ n * n }
     requires column { length column.now ≡ n }
     requires within_limit { n ≤ 1024 }
@@ -77,7 +84,13 @@ fn difference_at(cells: &[i64], n: usize, pivot_row: usize, column: &[i64], row:
 
 /// Takes the column's entry times the pivot row from another row, up to the first difference that leaves 64 bits,
 /// whose column it answers. O(n).
-fn subtract_row(cells: &mut [i64], n: usize, pivot_row: usize, column: &[i64], row: usize) -> Option<usize>
+fn subtract_row(
+    cells: &mut [i64],
+    n: usize,
+    pivot_row: usize,
+    column: &[i64],
+    row: usize,
+) -> Option<usize>
     requires square { length cells.old ≡ n * n }
     requires column { length column.now ≡ n }
     requires within_limit { n ≤ 1024 }
@@ -98,7 +111,12 @@ fn subtract_row(cells: &mut [i64], n: usize, pivot_row: usize, column: &[i64], r
 
 /// Does so in each other row, rising, up to the first difference that leaves 64 bits, whose row and column it answers.
 /// O(n²).
-fn subtract_rows(cells: &mut [i64], n: usize, pivot_row: usize, column: &[i64]) -> Option<(usize, usize)>
+fn subtract_rows(
+    cells: &mut [i64],
+    n: usize,
+    pivot_row: usize,
+    column: &[i64],
+) -> Option<(usize, usize)>
     requires square { length cells.old ≡ n * n }
     requires column { length column.now ≡ n }
     requires within_limit { n ≤ 1024 }

@@ -16,8 +16,8 @@ returns c =
     let factor_fits : FitsSigned w64 (at c.args.column.now c.args.row) = search rules in
     let factor : to_z w64 (of_z w64 (at c.args.column.now c.args.row)) ≡ at c.args.column.now c.args.row = to_z-of_z w64 (at c.args.column.now c.args.row) factor_fits in
     let less : c.product_of-less.result ≡ product (at c.args.column.now c.args.row) (cell t n c.args.pivot_row c.args.j) =
-        c.product_of-less.ensures.value
-        ∙ ap (λ (x : ℤ). product (to_z w64 (of_z w64 (at c.args.column.now c.args.row))) x) (to_z-of_z w64 (cell t n c.args.pivot_row c.args.j) above)
-        ∙ ap (λ (x : ℤ). product x (cell t n c.args.pivot_row c.args.j)) factor in
+    c.product_of-less.ensures.value
+    ∙ ap (λ (x : ℤ). product (to_z w64 (of_z w64 (at c.args.column.now c.args.row))) x) (to_z-of_z w64 (cell t n c.args.pivot_row c.args.j) above)
+    ∙ ap (λ (x : ℤ). product x (cell t n c.args.pivot_row c.args.j)) factor in
     let from : c.from.result ≡ cell t n c.args.row c.args.j = c.from.ensures ∙ to_z-of_z w64 (cell t n c.args.row c.args.j) here in
     omega (arith, ints, less, from)

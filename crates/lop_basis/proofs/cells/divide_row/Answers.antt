@@ -15,9 +15,9 @@ loop-j-preserved c =
     let wide : FitsSigned w128 c.quotient_at.result = search rules in
     let later = c.loop-j.invariant.later j (omega arith) c.loop-j-test.true in
     let value : c.in-Some.entry ≡ new_of_pivot_row c.args.cells.now n c.args.row c.args.column.now j =
-        c.in-Some.ensures.some
-        ∙ to_z-of_z w128 c.quotient_at.result wide
-        ∙ c.quotient_at.ensures
-        ∙ ap (λ (x : ℤ). quotient x (at c.args.column.now c.args.row)) later in
+    c.in-Some.ensures.some
+    ∙ to_z-of_z w128 c.quotient_at.result wide
+    ∙ c.quotient_at.ensures
+    ∙ ap (λ (x : ℤ). quotient x (at c.args.column.now c.args.row)) later in
     changed_more _ _ _ _ _ _ _ c.requires.square c.requires.row c.loop-j-test.true c.loop-j.invariant (to_z-of_z w64 c.in-Some.entry fits ∙ value)
     (subst (FitsSigned w64) value fits)

@@ -13,6 +13,6 @@ loop-j-preserved c =
     let later = c.loop-j.invariant.later j (omega arith) c.loop-j-test.true in
     let others = c.loop-j.invariant.others c.args.pivot_row j c.requires.pivot_row c.loop-j-test.true (λ e. c.requires.differ (sym e)) in
     let value : c.in-Some.entry ≡ difference c.args.cells.now c.args.n c.args.pivot_row c.args.column.now c.args.row j =
-        c.in-Some.ensures.some ∙ to_z-of_z w128 c.difference_at.result wide ∙ c.difference_at.ensures ∙ difference_kept _ _ _ _ _ later others in
+    c.in-Some.ensures.some ∙ to_z-of_z w128 c.difference_at.result wide ∙ c.difference_at.ensures ∙ difference_kept _ _ _ _ _ later others in
     changed_more _ _ _ _ _ _ _ c.requires.square c.requires.row c.loop-j-test.true c.loop-j.invariant (to_z-of_z w64 c.in-Some.entry fits ∙ value)
     (subst (FitsSigned w64) value fits)

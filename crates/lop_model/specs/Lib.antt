@@ -8,3 +8,5 @@ pub mod OrderFault
 pub mod Related
 pub mod Closing
 pub mod Cells
+pub mod Attained
+pub mod Reversed

@@ -5,6 +5,12 @@ use std::alloc::AllocError;
 use std::marker::Model;
 use thiserror::Error;
 
+/// The most objects that weights are of.
+pub const MAX_OBJECTS: u16 = 512;
+
+/// The most that the absolute values off the diagonal sum to.
+pub const MAX_ABSOLUTE_SUM: i128 = 1_000_000_000_000_000_000;
+
 /// Why a number of objects and a list of entries are no weights.
 #[derive(Clone, Copy, Debug, PartialEq, Eq, Error)]
 pub enum WeightsFault {
@@ -98,11 +104,11 @@ impl Weights {
         ensures fault { IfErr result (IsFault n entries.items) }
     {
         let size = n as usize;
-        if n < 1 || n > 512 || entries.len() != size * size {
+        if n < 1 || n > MAX_OBJECTS || entries.len() != size * size {
             return Err(WeightsFault::Size);
         }
         let sum = absolute_sum(&entries, size);
-        if sum > 1_000_000_000_000_000_000 {
+        if sum > MAX_ABSOLUTE_SUM {
             return Err(WeightsFault::TooHeavy(sum));
         }
         Ok(Weights { size: n, entries })

@@ -1,6 +1,7 @@
 //! Pairs of objects whose order is fixed, with all that follows from them.
 #![tactic(auto)]
 
+mod crossing;
 mod fixings;
 mod table;
 #[cfg(test)]

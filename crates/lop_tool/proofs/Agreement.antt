@@ -9,9 +9,9 @@ use Rattle.lop_desk.proofs.Files.{named_put, named_put_other}
 use Rattle.lop_desk.proofs.Printing.{rose_from}
 use Rattle.lop_core.specs.Core.{CoreFields}
 use Rattle.lop_core.specs.Machine.{state_bound}
-use Rattle.lop_certtext.specs.Answer.{CheckAnswer, accepted, check_answer}
+use Rattle.lop_certtext.specs.Answer.{CheckAnswer, accepted, IsCheckAnswer}
 use Rattle.lop_certtext.specs.Certificate.{certificate_text}
-use Rattle.lop_certtext.proofs.AcceptedText.{check_answer-certificate_text}
+use Rattle.lop_certtext.proofs.AcceptedText.{IsCheckAnswer-certificate_text}
 use Rattle.lop_tool.specs.Input.{input_named, reading_of}
 use Rattle.lop_words.specs.declared.command.Command.{Command}
 use Rattle.lop_words.specs.declared.command.Command.TheVariants.{Solve, Check, Value, Gen}
@@ -39,10 +39,10 @@ agree_at format file name nodes w v new before between now solved checked apart 
     let files : v.files ≡ put_file made w.files = ap the_files s.left.has in
     let input : input_named format v.files file ≡ Some (Ok (instance_of s.solution)) = ap (λ (fs : List NamedFile). input_named format fs file) files ∙ ap (reading_of format) (named_put_other made w.files file apart) ∙ s.accepted_file in
     let there : file_named v.files name ≡ Some made.bytes = ap (λ (fs : List NamedFile). file_named fs name) files ∙ named_put made w.files in
-    let ends : EndsBy (check_answer core.problem.weights made.bytes) checked = completes (Some (Check format file name)) (Some v) new between now checked second (instance_of s.solution) made.bytes input there (λ rose. calm (rose_from before between now later rose)) in
-    let answer : check_answer core.problem.weights made.bytes ≡ accepted c.value c.bound = check_answer-certificate_text core.problem.weights s.solved.searched.weights c s.left.holds (length-certificate_of nodes core c few s.solved s.left.of_core s.left.holds) in
+    let answer : IsCheckAnswer core.problem.weights made.bytes (accepted c.value c.bound) = IsCheckAnswer-certificate_text core.problem.weights s.solved.searched.weights c s.left.holds (length-certificate_of nodes core c few s.solved s.left.of_core s.left.holds) in
+    let ends : EndsBy (accepted c.value c.bound) checked = completes (Some (Check format file name)) (Some v) new between now checked second (instance_of s.solution) made.bytes input there (λ rose. calm (rose_from before between now later rose)) (accepted c.value c.bound) answer in
     let numbers : accepted c.value c.bound ≡ accepted core.state.best (state_bound core.state) = ap (λ (x : ℤ). accepted x c.bound) s.left.of_core.value_is ∙ ap (accepted core.state.best) s.left.of_core.bound_is in
-    let accepts : EndsBy (accepted core.state.best (state_bound core.state)) checked = subst (λ (a : CheckAnswer). EndsBy a checked) (answer ∙ numbers) ends in
+    let accepts : EndsBy (accepted core.state.best (state_bound core.state)) checked = subst (λ (a : CheckAnswer). EndsBy a checked) numbers ends in
     elim accepts [ inl same ↦ inl (same ∙ sym s.status_is) | inr five ↦ inr five ]
 
 -- what stands under a name was left where the files are told

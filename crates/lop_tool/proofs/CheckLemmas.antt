@@ -4,7 +4,7 @@ use Rattle.lop_desk.specs.World.{World, NamedFile, file_named, unread, with_open
 use Rattle.lop_desk.specs.Desk.{IsThere}
 use Rattle.lop_desk.specs.Whole.{OnlyOpens}
 use Rattle.lop_model.specs.Matrix.{Matrix}
-use Rattle.lop_certtext.specs.Answer.{CheckAnswer, too_long, check_answer}
+use Rattle.lop_certtext.specs.Answer.{CheckAnswer, too_long, IsCheckAnswer}
 use Rattle.lop_words.specs.declared.command.Format.{Format}
 use Rattle.lop_tool.specs.declared.input.Instance.{Instance}
 use Rattle.lop_tool.specs.declared.reply.Outcome.{Outcome}
@@ -35,11 +35,11 @@ abbrev to_read : Option World → List ℕ
 to_read None = []
 to_read (Some v) = unread v
 
-gives_at : (C : Matrix) (name : List ℕ) (w v : World) (answer : CheckAnswer) → Some v ≡ with_opened (Some (record { name = name; place = 0 })) (Some w) → IsSome (file_named w.files name) → check_answer C (unread v) ≡ answer → GivesAnswer C name w answer
+gives_at : (C : Matrix) (name : List ℕ) (w v : World) (answer : CheckAnswer) → Some v ≡ with_opened (Some (record { name = name; place = 0 })) (Some w) → IsSome (file_named w.files name) → IsCheckAnswer C (unread v) answer → GivesAnswer C name w answer
 gives_at C name w v answer is there found =
     let all = fresh (file_named w.files name) there in
     let rest : unread v ≡ all.0 = ap to_read is ∙ all.2 in
-    record { bytes = all.0; there = all.1; answer_is = ap (check_answer C) (sym rest) ∙ found }
+    record { bytes = all.0; there = all.1; answer_is = subst (λ (l : List ℕ). IsCheckAnswer C l answer) rest found }
 
 ChecksNamed-opened : (input : Instance) (name : List ℕ) (old new : Option World) (reply : Reply) → new ≡ with_opened (Some (record { name = name; place = 0 })) old → IsThere old name → ChecksBytes input new reply → ChecksNamed input name old reply
 ChecksNamed-opened input name None new (Checked x) is there checks = (checks.0, checks.1, tt)

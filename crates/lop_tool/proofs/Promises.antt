@@ -5,7 +5,8 @@ use Rattle.lop_desk.specs.Causes.{Rose}
 use Rattle.lop_desk.specs.Desk.{IsMissing}
 use Rattle.lop_tool.specs.declared.input.Instance.{Instance}
 use Rattle.lop_certtext.specs.declared.reason.Reason.{Reason}
-use Rattle.lop_certtext.specs.Answer.{CheckAnswer, accepted, rejected, too_long, check_answer}
+use Rattle.lop_certtext.proofs.Unique.{IsCheckAnswer-unique}
+use Rattle.lop_certtext.specs.Answer.{CheckAnswer, accepted, rejected, too_long, IsCheckAnswer}
 use Rattle.lop_words.specs.declared.command.Format.{Format}
 use Rattle.lop_words.specs.declared.command.Command.{Command}
 use Rattle.lop_words.specs.declared.command.Command.TheVariants.{Solve, Check, Value, Gen}
@@ -46,7 +47,8 @@ same_answer : (format : Format) (file cert : List ℕ) (w : World) (C D : Instan
 same_answer format file cert w C D a b first second =
     let same : C ≡ D = cc (first.accepted_file, second.accepted_file) in
     let read : first.bytes ≡ second.bytes = cc (first.there, second.there) in
-    sym first.answer_is ∙ ap (λ (x : Instance). check_answer x.weights first.bytes) same ∙ ap (check_answer D.weights) read ∙ second.answer_is
+    let moved : IsCheckAnswer D.weights second.bytes a = subst (λ (l : List ℕ). IsCheckAnswer D.weights l a) read (subst (λ (x : Instance). IsCheckAnswer x.weights first.bytes a) same first.answer_is) in
+    IsCheckAnswer-unique D.weights second.bytes a b moved second.answer_is
 
 rejected_status : (o : Outcome) (line : ℕ) (reason : Reason) → answer_of o ≡ rejected line reason → outcome_status o ≡ 1
 rejected_status (Accepted value bound) line reason is = absurd cc
@@ -443,21 +445,21 @@ want_ends (rejected line reason) status five = inr five
 want_ends too_long status five = inr five
 
 check_ends : (format : Format) (file cert : List ℕ) (w : World) (C : Instance) (bytes : List ℕ) (before now status : ℕ) → input_named format w.files file ≡ Some (Ok C) → file_named w.files cert ≡ Some bytes → (Rose before now → ⊥)
-    → ((reply : Reply) × Answers (Some (Check format file cert)) (Some w) reply × (status ≡ reply_status reply)) ⊎ (status ≡ 5) ⊎ ((status ≡ 4) × Faulted (Some (Check format file cert)) (Some w) before now) → EndsBy (check_answer C.weights bytes) status
-check_ends format file cert w C bytes before now status input there calm (inl (Checked x, answers, is)) =
-    subst (λ (a : CheckAnswer). EndsBy a status) (same_answer format file cert w x.input C (answer_of x.outcome) (check_answer C.weights bytes) answers.1 (record { accepted_file = input; bytes = bytes; there = there; answer_is = refl })) (ends_by x.outcome status is)
-check_ends format file cert w C bytes before now status input there calm (inl (Refused LongCertificate, answers, is)) =
-    subst (λ (a : CheckAnswer). EndsBy a status) (same_answer format file cert w answers.0 C too_long (check_answer C.weights bytes) answers.1 (record { accepted_file = input; bytes = bytes; there = there; answer_is = refl })) (inl is)
-check_ends format file cert w C bytes before now status input there calm (inl (Solved x, answers, is)) = absurd answers
-check_ends format file cert w C bytes before now status input there calm (inl (Valued x, answers, is)) = absurd answers
-check_ends format file cert w C bytes before now status input there calm (inl (Generated x, answers, is)) = absurd answers
-check_ends format file cert w C bytes before now status input there calm (inl (Refused (Order e), answers, is)) = absurd answers
-check_ends format file cert w C bytes before now status input there calm (inl (Refused Words, answers, is)) = absurd answers
-check_ends format file cert w C bytes before now status input there calm (inl (Refused (Input e), answers, is)) = absurd (cc (answers, input))
-check_ends format file cert w C bytes before now status input there calm (inr (inl five)) = want_ends (check_answer C.weights bytes) status five
-check_ends format file cert w C bytes before now status input there calm (inr (inr (four, inl (inl missing)))) = absurd (not_missing format w file (Ok C) input missing)
-check_ends format file cert w C bytes before now status input there calm (inr (inr (four, inl (inr missing)))) = absurd (cc (missing, there))
-check_ends format file cert w C bytes before now status input there calm (inr (inr (four, inr rose))) = absurd (calm rose)
+    → ((reply : Reply) × Answers (Some (Check format file cert)) (Some w) reply × (status ≡ reply_status reply)) ⊎ (status ≡ 5) ⊎ ((status ≡ 4) × Faulted (Some (Check format file cert)) (Some w) before now) → (a : CheckAnswer) → IsCheckAnswer C.weights bytes a → EndsBy a status
+check_ends format file cert w C bytes before now status input there calm (inl (Checked x, answers, is)) a found =
+    subst (λ (x : CheckAnswer). EndsBy x status) (same_answer format file cert w x.input C (answer_of x.outcome) a answers.1 (record { accepted_file = input; bytes = bytes; there = there; answer_is = found })) (ends_by x.outcome status is)
+check_ends format file cert w C bytes before now status input there calm (inl (Refused LongCertificate, answers, is)) a found =
+    subst (λ (x : CheckAnswer). EndsBy x status) (same_answer format file cert w answers.0 C too_long a answers.1 (record { accepted_file = input; bytes = bytes; there = there; answer_is = found })) (inl is)
+check_ends format file cert w C bytes before now status input there calm (inl (Solved x, answers, is)) a found = absurd answers
+check_ends format file cert w C bytes before now status input there calm (inl (Valued x, answers, is)) a found = absurd answers
+check_ends format file cert w C bytes before now status input there calm (inl (Generated x, answers, is)) a found = absurd answers
+check_ends format file cert w C bytes before now status input there calm (inl (Refused (Order e), answers, is)) a found = absurd answers
+check_ends format file cert w C bytes before now status input there calm (inl (Refused Words, answers, is)) a found = absurd answers
+check_ends format file cert w C bytes before now status input there calm (inl (Refused (Input e), answers, is)) a found = absurd (cc (answers, input))
+check_ends format file cert w C bytes before now status input there calm (inr (inl five)) a found = want_ends a status five
+check_ends format file cert w C bytes before now status input there calm (inr (inr (four, inl (inl missing)))) a found = absurd (not_missing format w file (Ok C) input missing)
+check_ends format file cert w C bytes before now status input there calm (inr (inr (four, inl (inr missing)))) a found = absurd (cc (missing, there))
+check_ends format file cert w C bytes before now status input there calm (inr (inr (four, inr rose))) a found = absurd (calm rose)
 
 not_missing_order : (n : ℕ) (w : World) (name : List ℕ) (input : Result (List ℕ) OrderFileRefusal) → order_named n w.files name ≡ Some input → IsMissing (Some w) name → ⊥
 not_missing_order n w name input is missing = let none : order_named n w.files name ≡ None = ap (order_reading_of n) missing in cc

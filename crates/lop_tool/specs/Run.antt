@@ -11,7 +11,7 @@ use Rattle.lop_core.specs.Core.{CoreFields}
 use Rattle.lop_certtext.specs.Tree.{tree_size}
 use Rattle.lop_certtext.specs.Certificate.{Certificate, certificate_text, IsTreeCertificate}
 use Rattle.lop_certwrite.specs.CoreTree.{IsCertificateOf}
-use Rattle.lop_certtext.specs.Answer.{CheckAnswer, accepted, rejected, too_long, check_answer}
+use Rattle.lop_certtext.specs.Answer.{CheckAnswer, accepted, rejected, too_long, IsCheckAnswer}
 use Rattle.lop_words.specs.declared.command.Command.{Command}
 use Rattle.lop_words.specs.declared.command.Command.TheVariants.{Solve, Check, Value, Gen}
 use Rattle.lop_words.specs.declared.command.Format.{Format}
@@ -102,7 +102,7 @@ pub record IsChecked (format : Format) (file cert : List ℕ) (w : World) (input
   pub accepted_file : input_named format w.files file ≡ Some (Ok input)
   pub bytes : List ℕ
   pub there : file_named w.files cert ≡ Some bytes
-  pub answer_is : check_answer input.weights bytes ≡ answer
+  pub answer_is : IsCheckAnswer input.weights bytes answer
 
 -- the checker's answer that an outcome stands for
 abbrev pub answer_of : Outcome → CheckAnswer
@@ -375,7 +375,7 @@ IsComplete None w before now status = ⊤
 IsComplete (Some (Solve format file nodes cert)) w before now status =
     (input : Instance) → input_named format w.files file ≡ Some (Ok input) → ¬ (Rose before now) → EndsSearch input.weights.size nodes status
 IsComplete (Some (Check format file cert)) w before now status =
-    (input : Instance) (bytes : List ℕ) → input_named format w.files file ≡ Some (Ok input) → file_named w.files cert ≡ Some bytes → ¬ (Rose before now) → EndsBy (check_answer input.weights bytes) status
+    (input : Instance) (bytes : List ℕ) → input_named format w.files file ≡ Some (Ok input) → file_named w.files cert ≡ Some bytes → ¬ (Rose before now) → (answer : CheckAnswer) → IsCheckAnswer input.weights bytes answer → EndsBy answer status
 IsComplete (Some (Value format file order_file)) w before now status =
     (input : Instance) (order : List ℕ) → input_named format w.files file ≡ Some (Ok input) → order_named input.weights.size w.files order_file ≡ Some (Ok order) → ¬ (Rose before now) → (status ≡ 0) ⊎ (status ≡ 5)
 IsComplete (Some (Gen seed n)) w before now status = ¬ (Rose before now) → (status ≡ 0) ⊎ (status ≡ 6) ⊎ (status ≡ 5)

@@ -61,7 +61,7 @@ fn check_instance<D: Desk>(
 
 // The certificate stands open at its beginning.
 fn check_opened<D: Desk>(input: Instance, desk: &mut D, room: &mut CheckRoom) -> Result<Reply, Stop>
-    requires same_n { room.old ≡ input.weights.size }
+    requires same_n { room.old.size ≡ input.weights.size }
     requires opened { IsOpen (D.told desk.old) }
     ensures world { OnlyOpens (D.told desk.old) (D.told desk.new) }
     ensures later { D.faults desk.old ≤ D.faults desk.new }

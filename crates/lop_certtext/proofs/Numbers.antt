@@ -7,35 +7,19 @@ use Rattle.std.proofs.lemmas.Bool.{and_parts, and_from, eqb-true, eqb-false, ne_
 use Rattle.std.proofs.lemmas.Fmt.{digits_decimal, digits_value-decimal, decimal-digits_value, decimal_nonempty, first_decimal, decimal_digit, length_signed_le}
 use Rattle.std.proofs.lemmas.List.{length-append}
 use Rattle.std.proofs.lemmas.Str.Parse.{IsNumeralModel, numerals_by_fold}
-use Rattle.lop_desk.specs.Number.{is_digit, all_digits, value_from, digits_value, IsPlain}
-use Rattle.lop_certtext.specs.Line.{is_plain_word, number_of, is_signed, with_number, numbers_of}
+use Rattle.lop_desk.specs.Number.{is_digit, all_digits, value_from, digits_value, is_plain_word}
+use Rattle.lop_desk.proofs.Spellings.{plain_parts, plain_from}
+use Rattle.lop_certtext.specs.Line.{number_of, is_signed, with_number, numbers_of}
 use Rattle.lop_certtext.specs.Reading.{number_word}
 
 -- digits and their value are those of std
 pub numerals : IsNumeralModel (λ ds. all_digits ds ≡ true) digits_value
 numerals = numerals_by_fold _ (search rules) value_from (search rules)
 
--- the test and the fact
-pub IsPlain-from_test : (word : List ℕ) → is_plain_word word ≡ true → IsPlain word
-IsPlain-from_test [] e = absurd (false≢true e)
-IsPlain-from_test (b ∷ []) e = record { not_empty = omega arith; digits = e; shortest = λ _. refl }
-IsPlain-from_test (b ∷ c ∷ bs) e = by (b == 48) refl e
-  where
-    by : (t : Bool) → (b == 48) ≡ t → cond t false (all_digits (b ∷ c ∷ bs)) ≡ true → IsPlain (b ∷ c ∷ bs)
-    by true is e = absurd (false≢true e)
-    by false is e = record { not_empty = omega arith; digits = e; shortest = λ (first : b ≡ 48). absurd (eqb-false b 48 is first) }
-
-pub test-from_IsPlain : (word : List ℕ) → IsPlain word → is_plain_word word ≡ true
-test-from_IsPlain [] p = absurd (omega (arith, p.not_empty))
-test-from_IsPlain (b ∷ []) p = p.digits
-test-from_IsPlain (b ∷ c ∷ bs) p =
-    let other : (b == 48) ≡ false = ne_eqb b 48 (λ first. absurd (omega (arith, p.shortest first))) in
-    ap (λ (t : Bool). cond t false (all_digits (b ∷ c ∷ bs))) other ∙ p.digits
-
 -- a plain word is what its value is written as
 plain_is : (word : List ℕ) → is_plain_word word ≡ true → digits_value word < 2 ^ 63 → decimal (digits_value word) ≡ word
 plain_is word e small =
-    let p = IsPlain-from_test word e in
+    let p = plain_parts word e in
     decimal-digits_value numerals word p.digits p.not_empty p.shortest (omega arith)
 
 -- a number is written as a plain word, with its value
@@ -43,7 +27,7 @@ decimal_plain : (n : ℕ) → n < 2 ^ 63 → is_plain_word (decimal n) ≡ true
 decimal_plain zero small = ap is_plain_word (decimal_digit 0 (omega arith))
 decimal_plain (suc n) small =
     let first : 48 < get_or (decimal (suc n)) 0 0 = first_decimal (suc n) (omega arith) (omega arith) in
-    test-from_IsPlain (decimal (suc n)) record {
+    plain_from (decimal (suc n)) record {
       not_empty = decimal_nonempty (suc n) (omega arith);
       digits = digits_decimal numerals (suc n) (omega arith);
       shortest = λ (e : get_or (decimal (suc n)) 0 0 ≡ 48). absurd (omega arith);
@@ -70,7 +54,7 @@ number_of-other b bs other = ap (λ (t : Bool). cond t (cond (is_plain_word bs &
 number_of-plain : (word : List ℕ) → is_plain_word word ≡ true → number_of word ≡ Some (pos (digits_value word))
 number_of-plain [] e = absurd (false≢true e)
 number_of-plain (b ∷ bs) e =
-    let digit = and_parts (is_digit b) (all_digits bs) (IsPlain-from_test (b ∷ bs) e).digits in
+    let digit = and_parts (is_digit b) (all_digits bs) (plain_parts (b ∷ bs) e).digits in
     let low = leb-true 48 b (and_parts (nat_le 48 b) (nat_le b 57) digit.0).0 in
     number_of-other b bs (λ minus. absurd (omega arith)) ∙ ap (λ (t : Bool). cond t (Some (pos (digits_value (b ∷ bs)))) None) e
 

@@ -3,7 +3,7 @@ use Rattle.std.specs.Prelude.{ℕ, zero, suc, ◌^◌, Bool, true, false, ◌&&�
 use Rattle.std.specs.Fmt.{signed_decimal}
 use Rattle.std.specs.List.{flat_map, list_all, slice_split}
 use Rattle.std.specs.Str.{bytes_eq}
-use Rattle.lop_desk.specs.Number.{all_digits, digits_value}
+use Rattle.lop_desk.specs.Number.{digits_value, is_plain_word}
 use Rattle.lop_certtext.specs.declared.word.CertWord.{CertWord}
 use Rattle.lop_certtext.specs.declared.word.CertWord.TheVariants.{Version, Objects, OrderLine, Value, Bound, Cuts, Dicycle, Fence, Ladder, SplitLine, Leaf, End}
 
@@ -62,12 +62,6 @@ is_row word ns = false
 -- the one spelling of a line, without its LF
 abbrev pub line_text : CertLine → List ℕ
 line_text l = word_text l.word ++ flat_map (λ n. 32 ∷ signed_decimal n) l.numbers
-
--- `0`, or digits that don't begin with 0
-abbrev pub is_plain_word : List ℕ → Bool
-is_plain_word [] = false
-is_plain_word (b ∷ []) = all_digits (b ∷ [])
-is_plain_word (b ∷ c ∷ bs) = if b == 48 then false else all_digits (b ∷ c ∷ bs)
 
 -- the number that a word spells: a `-` may stand before digits that aren't `0`
 abbrev pub number_of : List ℕ → Option ℤ

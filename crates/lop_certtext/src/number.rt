@@ -1,7 +1,7 @@
 // The number that a piece of a line spells.
 ghost use Rattle.std.specs.Prelude.{◌≡◌, ◌≤◌, ◌<◌, ◌^◌, true, false, pos, Some, MatchOption};
-ghost use Rattle.lop_desk.specs.Number.{digits_value};
-ghost use Rattle.lop_certtext.specs.Line.{is_plain_word, number_of};
+ghost use Rattle.lop_desk.specs.Number.{digits_value, is_plain_word};
+ghost use Rattle.lop_certtext.specs.Line.{number_of};
 ghost use Rattle.lop_certtext.specs.Reading.{is_in_range};
 
 use lop_desk::plain_number;

@@ -15,3 +15,4 @@ pub mod PointLemmas
 pub mod ChargeLemmas
 pub mod ClosureUnique
 pub mod CertifiedPaths
+pub mod CutTests

@@ -6,3 +6,4 @@ pub mod Point
 pub mod CutList
 pub mod Certifying
 pub mod Charges
+pub mod CutTests

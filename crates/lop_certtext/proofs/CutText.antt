@@ -14,8 +14,9 @@ use Rattle.lop_cuts.specs.Kind.{objects_of as cycle_objects}
 use Rattle.lop_certtext.specs.declared.word.CertWord.{CertWord}
 use Rattle.lop_certtext.specs.declared.word.CertWord.TheVariants.{Dicycle, Fence, Ladder}
 use Rattle.lop_certtext.specs.Line.{is_count, are_counts, is_row}
-use Rattle.lop_certtext.specs.CutLine.{numbers_of_objects, cycle_numbers, cut_line, is_cut, IsShapedCycle, IsShapedCut, objects_of, name_objects, if_cut, with_cycle, cycles_of, if_ladder, if_fence, cut_of}
-use Rattle.lop_certtext.proofs.CutTests.{IsCut-is_cut, is_cut-IsCut}
+use Rattle.lop_cuts.specs.CutTests.{is_cut}
+use Rattle.lop_certtext.specs.CutLine.{numbers_of_objects, cycle_numbers, cut_line, IsShapedCycle, IsShapedCut, objects_of, name_objects, if_cut, with_cycle, cycles_of, if_ladder, if_fence, cut_of}
+use Rattle.lop_cuts.proofs.CutTests.{IsCut-is_cut, is_cut-IsCut}
 use Rattle.lop_certtext.proofs.ObjectNumbers.{numbers_of_objects-objects_of, objects_of-below, objects_of-numbers, name_objects-numbers}
 
 abbrev pub below_n : ℕ → ℕ → Type 0

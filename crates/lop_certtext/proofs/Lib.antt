@@ -3,7 +3,6 @@ pub mod Lines
 pub mod Steps
 pub mod PathLemmas
 pub mod TreeBounds
-pub mod CutTests
 pub mod ObjectNumbers
 pub mod CutText
 pub mod NodeText

@@ -1,11 +1,11 @@
 -- The line of a cut, and the cut that a line spells.
-use Rattle.std.specs.Prelude.{◌≡◌, ⊤, All, ℕ, zero, suc, ◌+◌, ◌-◌, ◌%◌, Bool, true, not, ◌&&◌, ◌||◌, ◌==◌, nat_eq, nat_le, int_le, List, [], ◌∷◌, ◌++◌, length, map, take, drop, ℤ, pos, nat_abs, Option, None, Some, if◌then◌else◌}
+use Rattle.std.specs.Prelude.{◌≡◌, ⊤, All, ℕ, zero, suc, ◌+◌, ◌-◌, Bool, ◌&&◌, ◌==◌, int_le, List, [], ◌∷◌, ◌++◌, length, map, take, drop, ℤ, pos, nat_abs, Option, None, Some, if◌then◌else◌}
 use Rattle.std.specs.List.{flat_map, list_all}
 use Rattle.lop_cuts.specs.declared.kind.Cycle.{Cycle}
 use Rattle.lop_cuts.specs.declared.kind.Cycle.TheVariants.{Three, Four}
 use Rattle.lop_cuts.specs.declared.kind.CutKind.{CutKind}
 use Rattle.lop_cuts.specs.declared.kind.CutKind.TheVariants as kind
-use Rattle.lop_cuts.specs.Arcs.{cycle_arcs, cycles_with}
+use Rattle.lop_cuts.specs.CutTests.{is_cut}
 use Rattle.lop_cuts.specs.Kind.{fence_of, ladder_of}
 use Rattle.lop_cuts.specs.Kind.{objects_of as cycle_objects}
 use Rattle.lop_certtext.specs.declared.word.CertWord.{CertWord}
@@ -27,29 +27,6 @@ abbrev pub cut_line : CutKind → CertLine
 cut_line (kind.Dicycle objects) = record { word = Dicycle; numbers = numbers_of_objects objects }
 cut_line (kind.Fence u w) = record { word = Fence; numbers = pos (length u.items) ∷ numbers_of_objects (u.items ++ w.items) }
 cut_line (kind.Ladder cycles) = record { word = Ladder; numbers = pos (length cycles.items) ∷ flat_map cycle_numbers cycles.items }
-
--- ---- the conditions of a cut, as tests
-
--- no object stands twice
-abbrev pub are_different : List ℕ → Bool
-are_different [] = true
-are_different (x ∷ xs) = list_all (λ y. not (nat_eq x y)) xs && are_different xs
-
--- three or four different objects
-abbrev pub is_cycle : List ℕ → Bool
-is_cycle objects = (length objects == 3 || length objects == 4) && are_different objects
-
--- an odd number of cycles from 3 to 9, no arc in more than two of them
-abbrev pub is_ladder : List (List ℕ) → Bool
-is_ladder cycles =
-    nat_le 3 (length cycles) && nat_le (length cycles) 9 && length cycles % 2 == 1 && list_all is_cycle cycles && list_all (λ a. nat_le (cycles_with a cycles) 2) (flat_map cycle_arcs cycles)
-
--- the cut meets the conditions of its kind
-abbrev pub is_cut : CutKind → Bool
-is_cut (kind.Dicycle objects) = length objects == 3 && are_different objects
-is_cut (kind.Fence u w) =
-    length u.items == length w.items && nat_le 3 (length u.items) && nat_le (length u.items) 8 && are_different (u.items ++ w.items)
-is_cut (kind.Ladder cycles) = is_ladder (map cycle_objects cycles.items)
 
 -- a cycle of three has three objects, and one of four has four
 abbrev pub IsShapedCycle : Cycle → Type 0

@@ -8,10 +8,11 @@ use Rattle.lop_cuts.specs.declared.kind.Cycle.TheVariants.{Three, Four}
 use Rattle.lop_cuts.specs.declared.kind.CutKind.{CutKind}
 use Rattle.lop_cuts.specs.Kind.{IsCut, FitsCut, fence_of, ladder_of}
 use Rattle.lop_cuts.specs.Kind.{objects_of as cycle_objects}
-use Rattle.lop_certtext.specs.CutLine.{objects_of, name_objects, is_cut, if_cut, with_cycle, cycles_of, if_ladder, if_fence}
+use Rattle.lop_cuts.specs.CutTests.{is_cut}
+use Rattle.lop_certtext.specs.CutLine.{objects_of, name_objects, if_cut, with_cycle, cycles_of, if_ladder, if_fence}
 use Rattle.lop_certtext.proofs.ObjectNumbers.{objects_of-below}
 use Rattle.lop_certtext.proofs.CutText.{spelled_cycles}
-use Rattle.lop_certtext.proofs.CutTests.{is_cut-IsCut, IsCut-is_cut}
+use Rattle.lop_cuts.proofs.CutTests.{is_cut-IsCut, IsCut-is_cut}
 use Rattle.lop_check.specs.Cycles.{in_front, all_in_front, IsFirstCycle, IsNoCycle}
 
 -- ---- tests

@@ -1,6 +1,6 @@
 pub mod CellLemmas
 pub mod ChargeLemmas
-pub mod MarginLemmas
+pub mod ResidualLemmas
 pub mod PackingLemmas
 pub mod SpentLemmas
 pub mod StillLemmas

@@ -1,4 +1,4 @@
--- The steps of packing, over a table of margins.
+-- The steps of packing, over a table of residuals.
 use Rattle.std.proofs.Common.{◌≡◌, Option, Some, None, ◌≢◌, ◌⊎◌, ℕ, suc, ◌+◌, ◌-◌, ◌*◌, ◌^◌, ◌<◌, ◌≤◌, min, Bool, true, false, cond, eqb, ◌&&◌, ◌||◌, List, [], ◌∷◌, ◌++◌, length, get_or, set, refl, sym, ◌∙◌, ap, subst, inl, inr, ℤ, pos, negsuc, neg_ℤ, ◌+ℤ◌, ◌-ℤ◌, ◌*ℤ◌, ◌≤ℤ◌, ◌<ℤ◌, arith}
 use Rattle.std.specs.Prelude.{unsigned_abs}
 use Rattle.std.proofs.Math.IntN.{suc_ℤ-*ℤ, zero-*ℤ}
@@ -17,13 +17,13 @@ use Rattle.lop_cuts.specs.declared.kind.CutKind.TheVariants.{Dicycle}
 use Rattle.lop_cuts.specs.Lagrangian.{Term, reduced_entry}
 use Rattle.lop_fix.specs.PartialOrder.{FixedPairs, IsPartialOrder}
 use Rattle.lop_leaf.specs.Record.{ScaledTerms}
-use Rattle.lop_leaf.specs.Packing.{positive_part, margin, lesser, margin_number, cycle_margin, IsExhausted, AreThree, dicycle, in_turn}
-use Rattle.lop_leaf.specs.Table.{cell, IsMarginWord, lowered, HasMargins, IsSpentCycle, IsSpent, IsPacking}
+use Rattle.lop_leaf.specs.Packing.{positive_part, residual, lesser, residual_number, cycle_residual, IsExhausted, AreThree, dicycle, in_turn}
+use Rattle.lop_leaf.specs.Table.{cell, IsResidualWord, lowered, HasResiduals, IsSpentCycle, IsSpent, IsPacking}
 use Rattle.lop_leaf.proofs.CellLemmas.{read-set}
 use Rattle.lop_leaf.proofs.ChargeLemmas.{entries_within}
-use Rattle.lop_leaf.proofs.MarginLemmas.{margin_of, word_step, least_word, limited, lowered-zero, lowered-limited, arc_cases, one_way, reduced-dicycle}
+use Rattle.lop_leaf.proofs.ResidualLemmas.{residual_of, word_step, least_word, limited, lowered-zero, lowered-limited, arc_cases, one_way, reduced-dicycle}
 
--- ---- first margins
+-- ---- first residuals
 
 pub abs-positive : (x : ℤ) → pos 0 <ℤ x → unsigned_abs x ≡ positive_part x
 abs-positive (pos n) h = refl
@@ -50,13 +50,13 @@ part-within x y k h =
     part_le (x -ℤ y) k (omega (arith, ints))
 
 -- the word of a free arc before the first step
-pub free_word : (C : Matrix) (G : List Pair) (a b x : ℕ) → IsWeights C → a < C.size → b < C.size → a ≢ b → has_pair G a b ≡ false → has_pair G b a ≡ false → x ≡ positive_part (entry C a b -ℤ entry C b a) → IsMarginWord (margin G (reduced_entry C 1 []) a b) x
+pub free_word : (C : Matrix) (G : List Pair) (a b x : ℕ) → IsWeights C → a < C.size → b < C.size → a ≢ b → has_pair G a b ≡ false → has_pair G b a ≡ false → x ≡ positive_part (entry C a b -ℤ entry C b a) → IsResidualWord (residual G (reduced_entry C 1 []) a b) x
 free_word C G a b x is l m differ f g e =
     let same : positive_part (reduced_entry C 1 [] a b -ℤ reduced_entry C 1 [] b a) ≡ positive_part (entry C a b -ℤ entry C b a) = ap (λ u. positive_part (u -ℤ reduced_entry C 1 [] b a)) (plain_entry C a b) ∙ ap (λ v. positive_part (entry C a b -ℤ v)) (plain_entry C b a) in
     let small : positive_part (entry C a b -ℤ entry C b a) ≤ 10 ^ 18 = part-within (entry C a b) (entry C b a) (10 ^ 18) (entries_within C a b is differ l m) in
     rw (f, g) (e ∙ sym same, omega (arith, same, small))
 
--- ---- lowering the margins of a cycle
+-- ---- lowering the residuals of a cycle
 
 cell_where : (t : List ℕ) (n a b x y : ℕ) → (eqb x a && eqb y b) ≡ true → cell t n a b ≡ cell t n x y
 cell_where t n a b x y e = let at = both_equal x a y b e in ap (λ k. cell t n k b) (sym at.0) ∙ ap (λ k. cell t n x k) (sym at.1)
@@ -98,27 +98,27 @@ lowered_cycle n a b c x y m v v1 v2 v3 three e f g =
 
 -- ---- a step
 
--- the least word of a cycle is its least margin
-pub cycle_word : (C : Matrix) (G : List Pair) (terms : List Term) (t : List ℕ) (a b c : ℕ) → IsPartialOrder (record { size = C.size; pairs = G }) → AreThree C.size a b c → HasMargins C G terms t
-    → (cycle_margin G (reduced_entry C 1 terms) a b c ≡ min (cell t C.size a b) (min (cell t C.size b c) (cell t C.size c a))) × (min (cell t C.size a b) (min (cell t C.size b c) (cell t C.size c a)) < 2 ^ 63)
+-- the least word of a cycle is its least residual
+pub cycle_word : (C : Matrix) (G : List Pair) (terms : List Term) (t : List ℕ) (a b c : ℕ) → IsPartialOrder (record { size = C.size; pairs = G }) → AreThree C.size a b c → HasResiduals C G terms t
+    → (cycle_residual G (reduced_entry C 1 terms) a b c ≡ min (cell t C.size a b) (min (cell t C.size b c) (cell t C.size c a))) × (min (cell t C.size a b) (min (cell t C.size b c) (cell t C.size c a)) < 2 ^ 63)
 cycle_word C G terms t a b c order three has =
     let r : ℕ → ℕ → ℤ = reduced_entry C 1 terms in
-    least_word (margin G r a b) (margin G r b c) (margin G r c a) (cell t C.size a b) (cell t C.size b c) (cell t C.size c a)
+    least_word (residual G r a b) (residual G r b c) (residual G r c a) (cell t C.size a b) (cell t C.size b c) (cell t C.size c a)
     (has.each a b three.first three.second three.first_second) (has.each b c three.second three.third three.second_third) (has.each c a three.third three.first (λ e. three.first_third (sym e)))
     (limited C.size G r a b c order)
 
 -- what is known of the number that the code finds as the least word
 pub record LeastWord (C : Matrix) (G : List Pair) (terms : List Term) (t : List ℕ) (a b c m : ℕ) : Type 0 where
-  pub margin : cycle_margin G (reduced_entry C 1 terms) a b c ≡ m
+  pub residual : cycle_residual G (reduced_entry C 1 terms) a b c ≡ m
   pub limit : m < 2 ^ 63
   pub least : m ≡ min (cell t C.size a b) (min (cell t C.size b c) (cell t C.size c a))
 
-pub least_is : (C : Matrix) (f : FixedPairs) (terms : List Term) (t : List ℕ) (a b c n m : ℕ) → IsPartialOrder f → f.size ≡ C.size → AreThree C.size a b c → HasMargins C f.pairs terms t → n ≡ C.size → m ≡ min (cell t n a b) (min (cell t n b c) (cell t n c a)) → LeastWord C f.pairs terms t a b c m
+pub least_is : (C : Matrix) (f : FixedPairs) (terms : List Term) (t : List ℕ) (a b c n m : ℕ) → IsPartialOrder f → f.size ≡ C.size → AreThree C.size a b c → HasResiduals C f.pairs terms t → n ≡ C.size → m ≡ min (cell t n a b) (min (cell t n b c) (cell t n c a)) → LeastWord C f.pairs terms t a b c m
 least_is C f terms t a b c n m is same three has size e =
     let order : IsPartialOrder (record { size = C.size; pairs = f.pairs }) = subst (λ (k : ℕ). IsPartialOrder (record { size = k; pairs = f.pairs })) same is in
     let word = cycle_word C f.pairs terms t a b c order three has in
     let least : m ≡ min (cell t C.size a b) (min (cell t C.size b c) (cell t C.size c a)) = e ∙ ap (λ k. min (cell t k a b) (min (cell t k b c) (cell t k c a))) size in
-    record { margin = word.0 ∙ sym least; limit = subst (λ k. k < 2 ^ 63) (sym least) word.1; least = least }
+    record { residual = word.0 ∙ sym least; limit = subst (λ k. k < 2 ^ 63) (sym least) word.1; least = least }
 
 arc_enough : (n a b c x y m : ℕ) (t : List ℕ) → m ≤ cell t n a b → m ≤ cell t n b c → m ≤ cell t n c a → has_pair (cycle_arcs (a ∷ b ∷ c ∷ [])) x y ≡ true → m ≤ cell t n x y
 arc_enough n a b c x y m t h k l e = elim (arc_cases a b c x y e) [
@@ -129,11 +129,11 @@ arc_enough n a b c x y m t h k l e = elim (arc_cases a b c x y e) [
   ]
 ]
 
--- the table has the margins after the step
-pub margins_step : (C : Matrix) (G : List Pair) (terms : List Term) (t u : List ℕ) (a b c m : ℕ) → AreThree C.size a b c → HasMargins C G terms t → 0 < m → m ≤ cell t C.size a b → m ≤ cell t C.size b c → m ≤ cell t C.size c a → length u ≡ length t
+-- the table has the residuals after the step
+pub residuals_step : (C : Matrix) (G : List Pair) (terms : List Term) (t u : List ℕ) (a b c m : ℕ) → AreThree C.size a b c → HasResiduals C G terms t → 0 < m → m ≤ cell t C.size a b → m ≤ cell t C.size b c → m ≤ cell t C.size c a → length u ≡ length t
     → ((x y : ℕ) → y < C.size → cell u C.size x y ≡ cond (has_pair (cycle_arcs (a ∷ b ∷ c ∷ [])) x y) (lowered (cell t C.size x y) m) (cell t C.size x y))
-    → HasMargins C G (terms ++ dicycle a b c m ∷ []) u
-margins_step C G terms t u a b c m three has z h k l same each = record {
+    → HasResiduals C G (terms ++ dicycle a b c m ∷ []) u
+residuals_step C G terms t u a b c m three has z h k l same each = record {
   square = same ∙ has.square;
   each = λ x y lx ly differ.
       let arcs = cycle_arcs (a ∷ b ∷ c ∷ []) in
@@ -145,9 +145,9 @@ margins_step C G terms t u a b c m three has z h k l same each = record {
       (arc_enough C.size a b c x y m t h k l) (arc_enough C.size a b c y x m t h k l) (one_way C.size a b c x y three) in
       let forth = reduced-dicycle C terms a b c m x y in
       let back = reduced-dicycle C terms a b c m y x in
-      subst (λ (w : ℕ). IsMarginWord (margin G (reduced_entry C 1 (terms ++ dicycle a b c m ∷ [])) x y) w) (sym (each x y ly))
-      (subst (λ (v : ℤ). IsMarginWord (margin_of (has_pair G y x) (has_pair G x y) (reduced_entry C 1 (terms ++ dicycle a b c m ∷ []) x y -ℤ v)) (cond p (lowered (cell t C.size x y) m) (cell t C.size x y))) (sym back)
-      (subst (λ (v : ℤ). IsMarginWord (margin_of (has_pair G y x) (has_pair G x y) (v -ℤ (g -ℤ pos (cond q m 0)))) (cond p (lowered (cell t C.size x y) m) (cell t C.size x y))) (sym forth) step));
+      subst (λ (w : ℕ). IsResidualWord (residual G (reduced_entry C 1 (terms ++ dicycle a b c m ∷ [])) x y) w) (sym (each x y ly))
+      (subst (λ (v : ℤ). IsResidualWord (residual_of (has_pair G y x) (has_pair G x y) (reduced_entry C 1 (terms ++ dicycle a b c m ∷ []) x y -ℤ v)) (cond p (lowered (cell t C.size x y) m) (cell t C.size x y))) (sym back)
+      (subst (λ (v : ℤ). IsResidualWord (residual_of (has_pair G y x) (has_pair G x y) (v -ℤ (g -ℤ pos (cond q m 0)))) (cond p (lowered (cell t C.size x y) m) (cell t C.size x y))) (sym forth) step));
 }
 
 -- what is spent stays so
@@ -207,7 +207,7 @@ packing_step C G r s t u a b c m three packing e z l same each fits is =
     subst (λ (k : ScaledTerms). IsPacking C G k u) (sym is) (record {
       scale = packing.scale;
       fit = All-push (λ k. FitsCut C.size k.cut) r.terms (dicycle a b c m) packing.fit fits;
-      margins = margins_step C G r.terms t u a b c m three packing.margins z (omega (arith, e)) (omega (arith, e)) (omega (arith, e)) same each;
+      residuals = residuals_step C G r.terms t u a b c m three packing.residuals z (omega (arith, e)) (omega (arith, e)) (omega (arith, e)) same each;
       spent = All-push (λ k. IsSpent C.size u k.cut) r.terms (dicycle a b c m) (λ k d n. spent_step C.size t u a b c m (get_or r.terms k d).cut each (packing.spent k d n)) spent;
     })
 
@@ -227,44 +227,44 @@ in_turn_next k step x =
 
 -- ---- what is left in the end
 
-zero_word : (M : Option ℕ) (w : ℕ) → IsMarginWord M w → w ≡ 0 → M ≡ Some 0
+zero_word : (M : Option ℕ) (w : ℕ) → IsResidualWord M w → w ≡ 0 → M ≡ Some 0
 zero_word (Some m) w e z = ap Some (sym e.0 ∙ z)
 zero_word None w e z = absurd (omega (arith, e))
 
-least_zero : (A B D : Option ℕ) → (A ≡ Some 0) ⊎ ((B ≡ Some 0) ⊎ (D ≡ Some 0)) → margin_number (lesser A (lesser B D)) ≡ 0
+least_zero : (A B D : Option ℕ) → (A ≡ Some 0) ⊎ ((B ≡ Some 0) ⊎ (D ≡ Some 0)) → residual_number (lesser A (lesser B D)) ≡ 0
 least_zero A B D (inl e) = rw e (first (lesser B D))
   where
-    first : (y : Option ℕ) → margin_number (lesser (Some 0) y) ≡ 0
+    first : (y : Option ℕ) → residual_number (lesser (Some 0) y) ≡ 0
     first None = refl
     first (Some k) = omega arith
 least_zero A B D (inr (inl e)) = rw e (second A D)
   where
-    second : (x y : Option ℕ) → margin_number (lesser x (lesser (Some 0) y)) ≡ 0
+    second : (x y : Option ℕ) → residual_number (lesser x (lesser (Some 0) y)) ≡ 0
     second None None = refl
     second None (Some d) = omega arith
     second (Some a) None = omega arith
     second (Some a) (Some d) = omega arith
 least_zero A B D (inr (inr e)) = rw e (third A B)
   where
-    third : (x y : Option ℕ) → margin_number (lesser x (lesser y (Some 0))) ≡ 0
+    third : (x y : Option ℕ) → residual_number (lesser x (lesser y (Some 0))) ≡ 0
     third None None = refl
     third None (Some d) = omega arith
     third (Some a) None = omega arith
     third (Some a) (Some d) = omega arith
 
 -- a cycle that is spent in the table has taken all that it can
-pub exhausted_cycle : (C : Matrix) (G : List Pair) (terms : List Term) (t : List ℕ) (a b c : ℕ) → HasMargins C G terms t → AreThree C.size a b c → IsSpentCycle C.size t a b c → cycle_margin G (reduced_entry C 1 terms) a b c ≡ 0
+pub exhausted_cycle : (C : Matrix) (G : List Pair) (terms : List Term) (t : List ℕ) (a b c : ℕ) → HasResiduals C G terms t → AreThree C.size a b c → IsSpentCycle C.size t a b c → cycle_residual G (reduced_entry C 1 terms) a b c ≡ 0
 exhausted_cycle C G terms t a b c has three spent =
     let r : ℕ → ℕ → ℤ = reduced_entry C 1 terms in
-    least_zero (margin G r a b) (margin G r b c) (margin G r c a) (elim spent [
-      | inl e ↦ inl (zero_word (margin G r a b) (cell t C.size a b) (has.each a b three.first three.second three.first_second) e)
+    least_zero (residual G r a b) (residual G r b c) (residual G r c a) (elim spent [
+      | inl e ↦ inl (zero_word (residual G r a b) (cell t C.size a b) (has.each a b three.first three.second three.first_second) e)
       | inr rest ↦ elim rest [
-        | inl e ↦ inr (inl (zero_word (margin G r b c) (cell t C.size b c) (has.each b c three.second three.third three.second_third) e))
-        | inr e ↦ inr (inr (zero_word (margin G r c a) (cell t C.size c a) (has.each c a three.third three.first (λ f. three.first_third (sym f))) e))
+        | inl e ↦ inr (inl (zero_word (residual G r b c) (cell t C.size b c) (has.each b c three.second three.third three.second_third) e))
+        | inr e ↦ inr (inr (zero_word (residual G r c a) (cell t C.size c a) (has.each c a three.third three.first (λ f. three.first_third (sym f))) e))
       ]
     ])
 
-pub exhausted : (C : Matrix) (G : List Pair) (terms : List Term) (t : List ℕ) (cut : CutKind) → HasMargins C G terms t → IsSpent C.size t cut → IsExhausted G (reduced_entry C 1 terms) cut
+pub exhausted : (C : Matrix) (G : List Pair) (terms : List Term) (t : List ℕ) (cut : CutKind) → HasResiduals C G terms t → IsSpent C.size t cut → IsExhausted G (reduced_entry C 1 terms) cut
 exhausted C G terms t cut has is = record {
   a = is.a;
   b = is.b;

@@ -17,17 +17,17 @@ use Rattle.lop_cuts.specs.Arcs.{cycle_arcs}
 use Rattle.lop_cuts.specs.Kind.{right_side_of}
 use Rattle.lop_cuts.specs.Lagrangian.{Term, right_sides, reduced_entry, lagrangian_value}
 use Rattle.lop_cuts.proofs.LagrangianLemmas.{lagrangian_value-plain}
-use Rattle.lop_leaf.specs.Packing.{positive_part, margin, lesser, margin_number, cycle_margin, dicycle, pack_cycle, pack_triple, pack_pair, pack_object, packed_terms, packing_bound, in_turn, AreThree}
-use Rattle.lop_leaf.proofs.MarginLemmas.{part-positive, margin_of, arc_cases, one_way, reduced-dicycle}
+use Rattle.lop_leaf.specs.Packing.{positive_part, residual, lesser, residual_number, cycle_residual, dicycle, pack_cycle, pack_triple, pack_pair, pack_object, packed_terms, packing_bound, in_turn, AreThree}
+use Rattle.lop_leaf.proofs.ResidualLemmas.{part-positive, residual_of, arc_cases, one_way, reduced-dicycle}
 
--- ---- margins of at least m
+-- ---- residuals of at least m
 
--- m is within the margin
+-- m is within the residual
 abbrev IsWithin : ℕ → Option ℕ → Type 0
 IsWithin m None = ⊤
 IsWithin m (Some k) = m ≤ k
 
-within_each : (A B D : Option ℕ) (m : ℕ) → margin_number (lesser A (lesser B D)) ≡ m → 0 < m → IsWithin m A × IsWithin m B × IsWithin m D
+within_each : (A B D : Option ℕ) (m : ℕ) → residual_number (lesser A (lesser B D)) ≡ m → 0 < m → IsWithin m A × IsWithin m B × IsWithin m D
 within_each (Some a) (Some b) (Some d) m e h = (omega arith, omega arith, omega arith)
 within_each (Some a) (Some b) None m e h = (omega arith, omega arith, tt)
 within_each (Some a) None (Some d) m e h = (omega arith, tt, omega arith)
@@ -60,7 +60,7 @@ second_lost x m = omega (arith, ints)
 none_lost_free : (u v : ℤ) → int_max u v ≡ int_max (u -ℤ pos 0) (v -ℤ pos 0) +ℤ pos (0 + 0)
 none_lost_free u v = omega (arith, ints, clamps)
 
-value_step : (g h p q : Bool) (u v : ℤ) (m : ℕ) → 0 < m → (p ≡ true → IsWithin m (margin_of g h (u -ℤ v))) → (q ≡ true → IsWithin m (margin_of h g (v -ℤ u))) → (p ≡ true → q ≡ true → ⊥)
+value_step : (g h p q : Bool) (u v : ℤ) (m : ℕ) → 0 < m → (p ≡ true → IsWithin m (residual_of g h (u -ℤ v))) → (q ≡ true → IsWithin m (residual_of h g (v -ℤ u))) → (p ≡ true → q ≡ true → ⊥)
     → cond h u (cond g v (int_max u v)) ≡ cond h (u -ℤ pos (cond p m 0)) (cond g (v -ℤ pos (cond q m 0)) (int_max (u -ℤ pos (cond p m 0)) (v -ℤ pos (cond q m 0)))) +ℤ pos (cond p m 0 + cond q m 0)
 value_step g h true true u v m z k l o = absurd (o refl refl)
 value_step true h true false u v m z k l o = let most : m ≤ 0 = k refl in absurd (omega arith)
@@ -146,26 +146,26 @@ three_hits n a b c m three =
 
 -- ---- one step
 
-within_arc : (G : List Pair) (r : ℕ → ℕ → ℤ) (a b c x y m : ℕ) → IsWithin m (margin G r a b) → IsWithin m (margin G r b c) → IsWithin m (margin G r c a) → has_pair (cycle_arcs (a ∷ b ∷ c ∷ [])) x y ≡ true → IsWithin m (margin G r x y)
+within_arc : (G : List Pair) (r : ℕ → ℕ → ℤ) (a b c x y m : ℕ) → IsWithin m (residual G r a b) → IsWithin m (residual G r b c) → IsWithin m (residual G r c a) → has_pair (cycle_arcs (a ∷ b ∷ c ∷ [])) x y ≡ true → IsWithin m (residual G r x y)
 within_arc G r a b c x y m h k l e = elim (arc_cases a b c x y e) [
   | inl p ↦ moved a b x y p.0 p.1 h
   | inr rest ↦ elim rest [ inl p ↦ moved b c x y p.0 p.1 k | inr p ↦ moved c a x y p.0 p.1 l ]
 ]
   where
-    moved : (a b x y : ℕ) → a ≡ x → b ≡ y → IsWithin m (margin G r a b) → IsWithin m (margin G r x y)
-    moved a b x y e f w = let P : ℕ → Type 0 = λ z. IsWithin m (margin G r z b) in let Q : ℕ → Type 0 = λ z. IsWithin m (margin G r x z) in subst Q f (subst P e w)
+    moved : (a b x y : ℕ) → a ≡ x → b ≡ y → IsWithin m (residual G r a b) → IsWithin m (residual G r x y)
+    moved a b x y e f w = let P : ℕ → Type 0 = λ z. IsWithin m (residual G r z b) in let Q : ℕ → Type 0 = λ z. IsWithin m (residual G r x z) in subst Q f (subst P e w)
 
 lowered_sum : (rs rs' m : ℕ) (s s' : ℤ) → rs' ≡ rs + m * 2 → s ≡ s' +ℤ (pos m +ℤ (pos m +ℤ pos m)) → (pos rs' +ℤ s') +ℤ pos m ≡ pos rs +ℤ s
 lowered_sum rs rs' m s s' e f = omega (arith, ints)
 
--- one more cycle with its least margin lowers the Lagrangian value by that
-pub lagrangian_value-dicycle : (C : Matrix) (G : List Pair) (terms : List Term) (a b c m : ℕ) → AreThree C.size a b c → cycle_margin G (reduced_entry C 1 terms) a b c ≡ m → 0 < m → lagrangian_value C G 1 (terms ++ dicycle a b c m ∷ []) +ℤ pos m ≡ lagrangian_value C G 1 terms
+-- one more cycle with its least residual lowers the Lagrangian value by that
+pub lagrangian_value-dicycle : (C : Matrix) (G : List Pair) (terms : List Term) (a b c m : ℕ) → AreThree C.size a b c → cycle_residual G (reduced_entry C 1 terms) a b c ≡ m → 0 < m → lagrangian_value C G 1 (terms ++ dicycle a b c m ∷ []) +ℤ pos m ≡ lagrangian_value C G 1 terms
 lagrangian_value-dicycle C G terms a b c m three e h =
     let r : ℕ → ℕ → ℤ = reduced_entry C 1 terms in
     let r' : ℕ → ℕ → ℤ = reduced_entry C 1 (terms ++ dicycle a b c m ∷ []) in
     let arcs = cycle_arcs (a ∷ b ∷ c ∷ []) in
     let lost : ℕ → ℕ → ℤ = λ i j. pos (cond (has_pair arcs i j) m 0 + cond (has_pair arcs j i) m 0) in
-    let within = within_each (margin G r a b) (margin G r b c) (margin G r c a) m e h in
+    let within = within_each (residual G r a b) (residual G r b c) (residual G r c a) m e h in
     let at : (i j : ℕ) → pair_value G r i j ≡ pair_value G r' i j +ℤ lost i j = λ i j.
     value_step (has_pair G j i) (has_pair G i j) (has_pair arcs i j) (has_pair arcs j i) (r i j) (r j i) m h
     (within_arc G r a b c i j m within.0 within.1 within.2) (within_arc G r a b c j i m within.0 within.1 within.2) (one_way C.size a b c i j three)
@@ -198,7 +198,7 @@ balance v v' k m k' b e f g = omega (arith, ints)
 cycle_keeps : (C : Matrix) (G : List Pair) (a b c : ℕ) (terms : List Term) → AreThree C.size a b c → IsLowered C G terms → IsLowered C G (pack_cycle C G a b c terms)
 unfolding IsLowered
 cycle_keeps C G a b c terms three is =
-    let m = cycle_margin G (reduced_entry C 1 terms) a b c in
+    let m = cycle_residual G (reduced_entry C 1 terms) a b c in
     cond_keeps (λ (ts : List Term). lagrangian_value C G 1 ts +ℤ pos (sum_by (λ t. t.multiplier) ts) ≡ pair_bound C G) (ltb 0 m) (ltb (length terms) 4096) (terms ++ dicycle a b c m ∷ []) terms
     (λ t. balance (lagrangian_value C G 1 terms) (lagrangian_value C G 1 (terms ++ dicycle a b c m ∷ [])) (sum_by (λ u. u.multiplier) terms) m (sum_by (λ u. u.multiplier) (terms ++ dicycle a b c m ∷ [])) (pair_bound C G)
     (lagrangian_value-dicycle C G terms a b c m three refl (positive_test m t)) (sum_by_push (λ u. u.multiplier) terms (dicycle a b c m)) is)

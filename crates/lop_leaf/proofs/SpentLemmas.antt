@@ -7,8 +7,8 @@ use Rattle.lop_model.specs.Fixings.{has_pair}
 use Rattle.lop_cuts.specs.Arcs.{cycle_arcs}
 use Rattle.lop_leaf.specs.Record.{ScaledTerms}
 use Rattle.lop_leaf.specs.Packing.{AreThree, AreExhausted}
-use Rattle.lop_leaf.specs.Table.{cell, lowered, HasMargins, IsSpentCycle, IsPassed, ArePassed, IsLater}
-use Rattle.lop_leaf.proofs.MarginLemmas.{lowered-zero}
+use Rattle.lop_leaf.specs.Table.{cell, lowered, HasResiduals, IsSpentCycle, IsPassed, ArePassed, IsLater}
+use Rattle.lop_leaf.proofs.ResidualLemmas.{lowered-zero}
 use Rattle.lop_leaf.proofs.PackingLemmas.{which_least, exhausted_cycle}
 
 -- ---- one state after another
@@ -22,7 +22,7 @@ later_then n r t s u q v first second = record {
   none_left = λ x y l e. second.none_left x y l (first.none_left x y l e);
 }
 
--- a step of packing lowers margins and adds terms
+-- a step of packing lowers residuals and adds terms
 pub later_step : (n : ℕ) (r s : ScaledTerms) (t u : List ℕ) (a b c m : ℕ) → length r.terms ≤ length s.terms
     → ((x y : ℕ) → y < n → cell u n x y ≡ cond (has_pair (cycle_arcs (a ∷ b ∷ c ∷ [])) x y) (lowered (cell t n x y) m) (cell t n x y))
     → IsLater n r t s u
@@ -94,8 +94,8 @@ all_spent n t sorted a b c three =
       ]
     ]
 
--- where all have had their turn, no dicycle keeps three positive margins, unless the record is full
-pub all_exhausted : (C : Matrix) (G : List Pair) (r : ScaledTerms) (t : List ℕ) → length r.terms ≤ 4096 → HasMargins C G r.terms t → ((i j k : ℕ) → i < j → j < k → k < C.size → ArePassed C.size r t i j k) → AreExhausted C G r.terms
+-- where all have had their turn, no dicycle keeps three positive residuals, unless the record is full
+pub all_exhausted : (C : Matrix) (G : List Pair) (r : ScaledTerms) (t : List ℕ) → length r.terms ≤ 4096 → HasResiduals C G r.terms t → ((i j k : ℕ) → i < j → j < k → k < C.size → ArePassed C.size r t i j k) → AreExhausted C G r.terms
 all_exhausted C G r t most has passed = elim (cases_lt (length r.terms) 4096) [
   | inl room ↦ inr (λ a b c three. exhausted_cycle C G r.terms t a b c has three
       (all_spent C.size t (λ i j k ij jk kn. let both = passed i j k ij jk kn in (spent_if_room C.size r t i j k room both.0, spent_if_room C.size r t i k j room both.1)) a b c three))

@@ -8,22 +8,22 @@ use Rattle.lop_model.specs.Fixings.{has_pair}
 use Rattle.lop_cuts.specs.Lagrangian.{Term, reduced_entry}
 use Rattle.lop_leaf.specs.Record.{ScaledTerms}
 use Rattle.lop_leaf.specs.Packing.{positive_part, pack_cycle, pack_triple, in_turn, AreThree}
-use Rattle.lop_leaf.specs.Table.{cell, IsMarginWord, HasMargins, IsPassed, ArePassed, IsPassedPair, IsLater}
-use Rattle.lop_leaf.proofs.MarginLemmas.{margin_of, part-to_zero, part-positive, pack_cycle-none, pack_cycle-full}
+use Rattle.lop_leaf.specs.Table.{cell, IsResidualWord, HasResiduals, IsPassed, ArePassed, IsPassedPair, IsLater}
+use Rattle.lop_leaf.proofs.ResidualLemmas.{residual_of, part-to_zero, part-positive, pack_cycle-none, pack_cycle-full}
 use Rattle.lop_leaf.proofs.PackingLemmas.{exhausted_cycle, in_turn_more}
 
 -- of a difference and its reverse at most one is positive
 one_positive : (u v : ℤ) (w : ℕ) → w ≡ positive_part (u -ℤ v) → 0 < w → positive_part (v -ℤ u) ≡ 0
 one_positive u v w e z = let more : u -ℤ v ≡ pos w = part-positive (u -ℤ v) w e z in part-to_zero (v -ℤ u) (omega (arith, ints))
 
-one_word : (g h : Bool) (u v : ℤ) (w w2 : ℕ) → IsMarginWord (margin_of g h (u -ℤ v)) w → IsMarginWord (margin_of h g (v -ℤ u)) w2 → 0 < w → w2 ≡ 0
+one_word : (g h : Bool) (u v : ℤ) (w w2 : ℕ) → IsResidualWord (residual_of g h (u -ℤ v)) w → IsResidualWord (residual_of h g (v -ℤ u)) w2 → 0 < w → w2 ≡ 0
 one_word true h u v w w2 is is2 z = absurd (omega (arith, is.0))
 one_word false true u v w w2 is is2 z = is2.0
 one_word false false u v w w2 is is2 z = is2.0 ∙ one_positive u v w is.0 z
 
--- at most one of the arcs between two objects has a margin
-pub one_margin : (C : Matrix) (G : List Pair) (terms : List Term) (t : List ℕ) (i j : ℕ) → HasMargins C G terms t → i < C.size → j < C.size → i ≢ j → 0 < cell t C.size i j → cell t C.size j i ≡ 0
-one_margin C G terms t i j has li lj differ z =
+-- at most one of the arcs between two objects has a residual
+pub one_residual : (C : Matrix) (G : List Pair) (terms : List Term) (t : List ℕ) (i j : ℕ) → HasResiduals C G terms t → i < C.size → j < C.size → i ≢ j → 0 < cell t C.size i j → cell t C.size j i ≡ 0
+one_residual C G terms t i j has li lj differ z =
     one_word (has_pair G j i) (has_pair G i j) (reduced_entry C 1 terms i j) (reduced_entry C 1 terms j i) (cell t C.size i j) (cell t C.size j i)
     (has.each i j li lj differ) (has.each j i lj li (λ e. differ (sym e))) z
 
@@ -49,28 +49,28 @@ back n i j k ij jk kn = record {
 }
 
 -- a cycle that has had its turn takes nothing
-pub cycle_still : (C : Matrix) (G : List Pair) (r : ScaledTerms) (t : List ℕ) (a b c : ℕ) → HasMargins C G r.terms t → AreThree C.size a b c → IsPassed C.size r t a b c → pack_cycle C G a b c r.terms ≡ r.terms
+pub cycle_still : (C : Matrix) (G : List Pair) (r : ScaledTerms) (t : List ℕ) (a b c : ℕ) → HasResiduals C G r.terms t → AreThree C.size a b c → IsPassed C.size r t a b c → pack_cycle C G a b c r.terms ≡ r.terms
 cycle_still C G r t a b c has three passed = elim passed [
   | inl full ↦ pack_cycle-full C G a b c r.terms full
   | inr spent ↦ pack_cycle-none C G a b c r.terms (exhausted_cycle C G r.terms t a b c has three spent)
 ]
 
-pub triple_still : (C : Matrix) (G : List Pair) (r : ScaledTerms) (t : List ℕ) (i j k : ℕ) → HasMargins C G r.terms t → i < j → j < k → k < C.size → ArePassed C.size r t i j k → pack_triple C G i j k r.terms ≡ r.terms
+pub triple_still : (C : Matrix) (G : List Pair) (r : ScaledTerms) (t : List ℕ) (i j k : ℕ) → HasResiduals C G r.terms t → i < j → j < k → k < C.size → ArePassed C.size r t i j k → pack_triple C G i j k r.terms ≡ r.terms
 triple_still C G r t i j k has ij jk kn passed =
     ap (pack_cycle C G i k j) (cycle_still C G r t i j k has (forth C.size i j k ij jk kn) passed.0)
     ∙ cycle_still C G r t i k j has (back C.size i j k ij jk kn) passed.1
 
--- what a step over the arc from i to j leaves, where this arc had a margin: the other cycle of the three takes nothing
-pub triple_forth : (C : Matrix) (G : List Pair) (r s : ScaledTerms) (t u : List ℕ) (i j k : ℕ) → i < j → j < k → k < C.size → HasMargins C G r.terms t → 0 < cell t C.size i j → s.terms ≡ pack_cycle C G i j k r.terms → HasMargins C G s.terms u → IsLater C.size r t s u → IsPassed C.size s u i j k
+-- what a step over the arc from i to j leaves, where this arc had a residual: the other cycle of the three takes nothing
+pub triple_forth : (C : Matrix) (G : List Pair) (r s : ScaledTerms) (t u : List ℕ) (i j k : ℕ) → i < j → j < k → k < C.size → HasResiduals C G r.terms t → 0 < cell t C.size i j → s.terms ≡ pack_cycle C G i j k r.terms → HasResiduals C G s.terms u → IsLater C.size r t s u → IsPassed C.size s u i j k
     → (s.terms ≡ pack_triple C G i j k r.terms) × ArePassed C.size s u i j k
-triple_forth C G r s t u i j k ij jk kn before margin step after later passed =
+triple_forth C G r s t u i j k ij jk kn before residual step after later passed =
     let inn : i < C.size = omega arith in
-    let none : cell t C.size j i ≡ 0 = one_margin C G r.terms t i j before inn (omega arith) (λ e. absurd (omega arith)) margin in
+    let none : cell t C.size j i ≡ 0 = one_residual C G r.terms t i j before inn (omega arith) (λ e. absurd (omega arith)) residual in
     let other : IsPassed C.size s u i k j = inr (inr (inr (later.none_left j i inn none))) in
     (sym (cycle_still C G s u i k j after (back C.size i j k ij jk kn) other) ∙ ap (pack_cycle C G i k j) step, (passed, other))
 
 -- and where it had none: the cycle over it takes nothing
-pub triple_back : (C : Matrix) (G : List Pair) (r s : ScaledTerms) (t u : List ℕ) (i j k : ℕ) → i < j → j < k → k < C.size → HasMargins C G r.terms t → cell t C.size i j ≡ 0 → s.terms ≡ pack_cycle C G i k j r.terms → IsLater C.size r t s u → IsPassed C.size s u i k j
+pub triple_back : (C : Matrix) (G : List Pair) (r s : ScaledTerms) (t u : List ℕ) (i j k : ℕ) → i < j → j < k → k < C.size → HasResiduals C G r.terms t → cell t C.size i j ≡ 0 → s.terms ≡ pack_cycle C G i k j r.terms → IsLater C.size r t s u → IsPassed C.size s u i k j
     → (s.terms ≡ pack_triple C G i j k r.terms) × ArePassed C.size s u i j k
 triple_back C G r s t u i j k ij jk kn before none step later passed =
     let jn : j < C.size = omega arith in

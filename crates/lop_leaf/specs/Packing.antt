@@ -15,23 +15,23 @@ positive_part (pos m) = m
 positive_part (negsuc m) = 0
 
 -- what the arc from a to b can lose before its pair gives less than that: nothing where the pair is fixed the other way, anything (None) where it is fixed this way, else what the arc has more than its reverse
-abbrev pub margin : List Pair → (ℕ → ℕ → ℤ) → ℕ → ℕ → Option ℕ
-margin G r a b = if has_pair G b a then Some 0 else (if has_pair G a b then None else Some (positive_part (r a b -ℤ r b a)))
+abbrev pub residual : List Pair → (ℕ → ℕ → ℤ) → ℕ → ℕ → Option ℕ
+residual G r a b = if has_pair G b a then Some 0 else (if has_pair G a b then None else Some (positive_part (r a b -ℤ r b a)))
 
--- the lesser of two margins
+-- the lesser of two residuals
 abbrev pub lesser : Option ℕ → Option ℕ → Option ℕ
 lesser None y = y
 lesser (Some m) None = Some m
 lesser (Some m) (Some k) = Some (min m k)
 
--- a margin as a number. That of a whole cycle is never None where the pairs are closed and have no cycle
-abbrev pub margin_number : Option ℕ → ℕ
-margin_number None = 0
-margin_number (Some m) = m
+-- a residual as a number. That of a whole cycle is never None where the pairs are closed and have no cycle
+abbrev pub residual_number : Option ℕ → ℕ
+residual_number None = 0
+residual_number (Some m) = m
 
--- the least margin of the cycle a, b, c
-abbrev pub cycle_margin : List Pair → (ℕ → ℕ → ℤ) → ℕ → ℕ → ℕ → ℕ
-cycle_margin G r a b c = margin_number (lesser (margin G r a b) (lesser (margin G r b c) (margin G r c a)))
+-- the least residual of the cycle a, b, c
+abbrev pub cycle_residual : List Pair → (ℕ → ℕ → ℤ) → ℕ → ℕ → ℕ → ℕ
+cycle_residual G r a b c = residual_number (lesser (residual G r a b) (lesser (residual G r b c) (residual G r c a)))
 
 -- the cycle a, b, c with a multiplier
 abbrev pub dicycle : ℕ → ℕ → ℕ → ℕ → Term
@@ -46,22 +46,22 @@ pub record AreThree (n a b c : ℕ) : Type 0 where
   pub second_third : b ≢ c
   pub first_third : a ≢ c
 
--- the cut is a dicycle that has taken all that it can: its least margin is 0
+-- the cut is a dicycle that has taken all that it can: its least residual is 0
 pub record IsExhausted (G : List Pair) (r : ℕ → ℕ → ℤ) (cut : CutKind) : Type 0 where
   pub a : ℕ
   pub b : ℕ
   pub c : ℕ
   pub is : cut ≡ Dicycle (a ∷ b ∷ c ∷ [])
-  pub none_left : cycle_margin G r a b c ≡ 0
+  pub none_left : cycle_residual G r a b c ≡ 0
 
--- no dicycle keeps three positive margins in what the terms leave, unless they are all the 4,096 that there may be
+-- no dicycle keeps three positive residuals in what the terms leave, unless they are all the 4,096 that there may be
 abbrev pub AreExhausted : Matrix → List Pair → List Term → Type 0
-AreExhausted C G terms = (length terms ≡ 4096) ⊎ ((a b c : ℕ) → AreThree C.size a b c → cycle_margin G (reduced_entry C 1 terms) a b c ≡ 0)
+AreExhausted C G terms = (length terms ≡ 4096) ⊎ ((a b c : ℕ) → AreThree C.size a b c → cycle_residual G (reduced_entry C 1 terms) a b c ≡ 0)
 
--- the terms after the cycle a, b, c: where its least margin in the reduced entries is positive, it is the cycle's multiplier. There are at most 4,096 terms
+-- the terms after the cycle a, b, c: where its least residual in the reduced entries is positive, it is the cycle's multiplier. There are at most 4,096 terms
 abbrev pub pack_cycle : Matrix → List Pair → ℕ → ℕ → ℕ → List Term → List Term
 pack_cycle C G a b c terms =
-    let m = cycle_margin G (reduced_entry C 1 terms) a b c in
+    let m = cycle_residual G (reduced_entry C 1 terms) a b c in
     if nat_lt 0 m && nat_lt (length terms) 4096 then terms ++ dicycle a b c m ∷ [] else terms
 
 -- the terms after both cycles of three objects

@@ -18,7 +18,7 @@ use std::marker::Model;
 pub struct PairRoom {
     size: u16,
     charges: Vec<u128>,
-    pub(crate) margins: Vec<u64>,
+    pub(crate) residuals: Vec<u64>,
 }
 
 impl Model for PairRoom {
@@ -29,7 +29,7 @@ impl Model for PairRoom {
 
     ghost view = { λ r. r.size };
 
-    ghost invariant = { λ r. (vec_len r.charges ≡ r.size * r.size) × (vec_len r.margins ≡ r.size * r.size) };
+    ghost invariant = { λ r. (vec_len r.charges ≡ r.size * r.size) × (vec_len r.residuals ≡ r.size * r.size) };
 }
 
 impl PairRoom {
@@ -41,7 +41,7 @@ impl PairRoom {
         Ok(PairRoom {
             size: n,
             charges: vec![in alloc; 0; cells]?,
-            margins: vec![in alloc; 0; cells]?,
+            residuals: vec![in alloc; 0; cells]?,
         })
     }
 }

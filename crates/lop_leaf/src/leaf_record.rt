@@ -8,6 +8,9 @@ use std::marker::Model;
 /// The most terms that a record has.
 pub const MAX_TERMS: usize = 4096;
 
+/// The greatest scale of a record.
+pub const MAX_SCALE: u32 = 65536;
+
 /// A cut, and the whole number by which its inequality is multiplied.
 #[derive(Drop)]
 pub struct Term {

@@ -7,8 +7,8 @@ ghost use Rattle.lop_cuts.specs.Arcs.{cycle_arcs};
 ghost use Rattle.lop_cuts.specs.Lagrangian.{reduced_entry};
 ghost use Rattle.lop_leaf.specs.Record.{HasCutsBelow};
 ghost use Rattle.lop_leaf.specs.Bound.{record_value};
-ghost use Rattle.lop_leaf.specs.Packing.{positive_part, margin, pack_cycle, pack_triple, pack_pair, pack_object, packed, packing_bound, AreThree, IsExhausted, AreExhausted};
-ghost use Rattle.lop_leaf.specs.Table.{cell, lowered, IsMarginWord, HasMargins, IsPacking, IsPassed, ArePassed, IsPassedPair, IsLater};
+ghost use Rattle.lop_leaf.specs.Packing.{positive_part, residual, pack_cycle, pack_triple, pack_pair, pack_object, packed, packing_bound, AreThree, IsExhausted, AreExhausted};
+ghost use Rattle.lop_leaf.specs.Table.{cell, lowered, IsResidualWord, HasResiduals, IsPacking, IsPassed, ArePassed, IsPassedPair, IsLater};
 
 use crate::{LeafRecord, MAX_TERMS, PairRoom, upper};
 use lop_cuts::Cut;
@@ -28,12 +28,12 @@ fn excess(forth: i64, back: i64) -> u64
 
 /// What the arc from `a` to `b` can lose before its pair gives less than that: `u64::MAX` where it may lose
 /// anything, since the pair is fixed that way.
-fn margin_at(weights: &Weights, fixings: &Fixings, a: u16, b: u16) -> u64
+fn residual_at(weights: &Weights, fixings: &Fixings, a: u16, b: u16) -> u64
     requires first { a < weights.now.size }
     requires second { b < weights.now.size }
     requires differ { a ≢ b }
     requires same_n { fixings.now.size ≡ weights.now.size }
-    ensures { IsMarginWord (margin fixings.now.pairs (reduced_entry weights.now 1 []) a b) result }
+    ensures { IsResidualWord (residual fixings.now.pairs (reduced_entry weights.now 1 []) a b) result }
 {
     prove_eq!(fixings.n(), weights.n());
     match fixings.decided(a, b) {
@@ -44,59 +44,59 @@ fn margin_at(weights: &Weights, fixings: &Fixings, a: u16, b: u16) -> u64
 }
 
 /// The same, and 0 from an object to itself.
-fn margin_or_none(weights: &Weights, fixings: &Fixings, a: u16, b: u16) -> u64
+fn residual_or_none(weights: &Weights, fixings: &Fixings, a: u16, b: u16) -> u64
     requires first { a < weights.now.size }
     requires second { b < weights.now.size }
     requires same_n { fixings.now.size ≡ weights.now.size }
-    ensures { a ≢ b → IsMarginWord (margin fixings.now.pairs (reduced_entry weights.now 1 []) a b) result }
+    ensures { a ≢ b → IsResidualWord (residual fixings.now.pairs (reduced_entry weights.now 1 []) a b) result }
 {
     if a == b {
         0
     } else {
-        margin_at(weights, fixings, a, b)
+        residual_at(weights, fixings, a, b)
     }
 }
 
-/// Writes the margins of the arcs from an object. O(n).
+/// Writes the residuals of the arcs from an object. O(n).
 fn load_row(weights: &Weights, fixings: &Fixings, table: &mut [u64], a: u16)
     requires square { length table.old ≡ weights.now.size * weights.now.size }
     requires same_n { fixings.now.size ≡ weights.now.size }
     requires row { a < weights.now.size }
     ensures same_length { length table.new ≡ length table.old }
     ensures here { (b : ℕ) → b < weights.now.size → a ≢ b
-        → IsMarginWord (margin fixings.now.pairs (reduced_entry weights.now 1 []) a b) (cell table.new weights.now.size a b) }
+        → IsResidualWord (residual fixings.now.pairs (reduced_entry weights.now 1 []) a b) (cell table.new weights.now.size a b) }
     ensures others { (x y : ℕ) → x ≢ a → y < weights.now.size → cell table.new weights.now.size x y ≡ cell table.old weights.now.size x y }
 {
     let n = weights.n();
     for b in 0..n {
-        table[a as usize * n as usize + b as usize] = margin_or_none(weights, fixings, a, b);
+        table[a as usize * n as usize + b as usize] = residual_or_none(weights, fixings, a, b);
     }
 }
 
-/// Writes the margins of all arcs. O(n²).
-fn load_margins(weights: &Weights, fixings: &Fixings, table: &mut [u64])
+/// Writes the residuals of all arcs. O(n²).
+fn load_residuals(weights: &Weights, fixings: &Fixings, table: &mut [u64])
     requires square { length table.old ≡ weights.now.size * weights.now.size }
     requires same_n { fixings.now.size ≡ weights.now.size }
-    ensures { HasMargins weights.now fixings.now.pairs [] table.new }
+    ensures { HasResiduals weights.now fixings.now.pairs [] table.new }
 {
     for a in 0..weights.n() {
         load_row(weights, fixings, table, a);
     }
 }
 
-/// A margin less m, where it has a limit.
-fn lowered(margin: u64, m: u64) -> u64
-    requires { m ≤ margin }
-    ensures { result ≡ lowered margin m }
+/// A residual less m, where it has a limit.
+fn lowered(residual: u64, m: u64) -> u64
+    requires { m ≤ residual }
+    ensures { result ≡ lowered residual m }
 {
-    if margin == u64::MAX {
-        margin
+    if residual == u64::MAX {
+        residual
     } else {
-        margin - m
+        residual - m
     }
 }
 
-/// Takes m off the margin of an arc, where it has a limit.
+/// Takes m off the residual of an arc, where it has a limit.
 fn lower(table: &mut [u64], n: usize, a: u16, b: u16, m: u64)
     requires square { length table.old ≡ n * n }
     requires within_limit { n ≤ 512 }
@@ -110,7 +110,7 @@ fn lower(table: &mut [u64], n: usize, a: u16, b: u16, m: u64)
     table[place] = lowered(table[place], m);
 }
 
-/// Takes m off the margins of the cycle a, b, c.
+/// Takes m off the residuals of the cycle a, b, c.
 fn lower_cycle(table: &mut [u64], n: usize, a: u16, b: u16, c: u16, m: u64)
     requires square { length table.old ≡ n * n }
     requires within_limit { n ≤ 512 }
@@ -138,8 +138,8 @@ fn cell_of(table: &[u64], n: usize, a: u16, b: u16) -> u64
     table[a as usize * n + b as usize]
 }
 
-/// The least margin of the cycle a, b, c.
-fn least_margin(table: &[u64], n: usize, a: u16, b: u16, c: u16) -> u64
+/// The least residual of the cycle a, b, c.
+fn least_residual(table: &[u64], n: usize, a: u16, b: u16, c: u16) -> u64
     requires square { length table.now ≡ n * n }
     requires within_limit { n ≤ 512 }
     requires three { AreThree n a b c }
@@ -151,7 +151,7 @@ fn least_margin(table: &[u64], n: usize, a: u16, b: u16, c: u16) -> u64
     first.min(second.min(third))
 }
 
-/// Gives the cycle a, b, c its least margin as a multiplier, where that is positive and the record has room.
+/// Gives the cycle a, b, c its least residual as a multiplier, where that is positive and the record has room.
 fn pack_one(
     weights: &Weights,
     fixings: &Fixings,
@@ -171,7 +171,7 @@ fn pack_one(
 {
     prove_eq!(fixings.n(), weights.n());
     let n = weights.n();
-    let m = least_margin(table, n as usize, a, b, c);
+    let m = least_residual(table, n as usize, a, b, c);
     if m > 0 && rec.len() < MAX_TERMS {
         let cut = Cut::dicycle(a, b, c, n).unwrap();
         lower_cycle(table, n as usize, a, b, c, m);
@@ -179,7 +179,7 @@ fn pack_one(
     }
 }
 
-/// Packs both cycles of three objects. At most one of the arcs between i and j has a margin, so only the cycle over
+/// Packs both cycles of three objects. At most one of the arcs between i and j has a residual, so only the cycle over
 /// that arc can take anything.
 fn pack_both(
     weights: &Weights,
@@ -207,7 +207,7 @@ fn pack_both(
     }
 }
 
-/// Whether no cycle over i and j can take anything: the record is full, or neither arc between them has a margin.
+/// Whether no cycle over i and j can take anything: the record is full, or neither arc between them has a residual.
 fn is_passed(table: &[u64], n: usize, rec: &LeafRecord, i: u16, j: u16) -> bool
     requires square { length table.now ≡ n * n }
     requires within_limit { n ≤ 512 }
@@ -275,7 +275,7 @@ fn pack_all(weights: &Weights, fixings: &Fixings, table: &mut [u64], rec: &mut L
     ensures packing { IsPacking weights.now fixings.now.pairs rec.new table.new }
     ensures passed { (i j k : ℕ) → i < j → j < k → k < weights.now.size → ArePassed weights.now.size rec.new table.new i j k }
 {
-    load_margins(weights, fixings, table);
+    load_residuals(weights, fixings, table);
     rec.clear();
     for i in 0..weights.n() {
         pack_seconds(weights, fixings, table, rec, i);
@@ -302,6 +302,6 @@ pub fn packing(
     ensures packed_exhausted { All (λ t. IsExhausted fixings.now.pairs (reduced_entry weights.now 1 rec.new.terms) t.cut) rec.new.terms }
     ensures room { room.new ≡ room.old }
 {
-    pack_all(weights, fixings, &mut room.margins, rec);
+    pack_all(weights, fixings, &mut room.residuals, rec);
     upper(weights, fixings, rec, room)
 }

@@ -3,7 +3,7 @@ use Rattle.std.specs.Prelude.{nat_abs, int_lt}
 use Rattle.std.specs.Int.{w64}
 use Rattle.std.proofs.lemmas.Int.{ints, to_z-of_z}
 use Rattle.lop_leaf.specs.Packing.{positive_part}
-use Rattle.lop_leaf.proofs.MarginLemmas.{part-to_zero}
+use Rattle.lop_leaf.proofs.ResidualLemmas.{part-to_zero}
 use Rattle.lop_leaf.proofs.PackingLemmas.{abs-positive}
 use Rattle.lop_leaf.proofs.pack.excess.Goals as goal
 

@@ -6,7 +6,7 @@ use Rattle.lop_cuts.specs.declared.kind.CutKind.{CutKind}
 use Rattle.lop_cuts.specs.declared.kind.CutKind.TheVariants.{Dicycle}
 use Rattle.lop_model.specs.Fixings.{has_pair}
 use Rattle.lop_leaf.specs.Table.{cell, lowered}
-use Rattle.lop_leaf.proofs.MarginLemmas.{pack_cycle-taken, pack_cycle-none, pack_cycle-full}
+use Rattle.lop_leaf.proofs.ResidualLemmas.{pack_cycle-taken, pack_cycle-none, pack_cycle-full}
 use Rattle.lop_leaf.proofs.PackingLemmas.{least_is, packing_step, spent_cycle}
 use Rattle.lop_leaf.proofs.SpentLemmas.{later_same, later_step, spent_none}
 use Rattle.lop_leaf.proofs.pack.pack_one.Goals.{else-m-gt0-via-then-m-gt0+else-len-lt-MAX_TERMS, else-m-gt0-via-else-m-gt0}
@@ -14,30 +14,30 @@ use Rattle.lop_leaf.proofs.pack.pack_one.Goals as goal
 
 pub put-requires-clause-multiplier : goal.put-requires-clause-multiplier
 put-requires-clause-multiplier c =
-    let least = least_is c.args.weights.now c.args.fixings.now c.args.rec.now.terms c.args.table.now c.args.a c.args.b c.args.c c.n-n.result c.least_margin-m.result
-    c.n.ensures.partial_order c.requires.same_n c.requires.three c.requires.packing.margins c.n-n.ensures.size c.least_margin-m.ensures in
+    let least = least_is c.args.weights.now c.args.fixings.now c.args.rec.now.terms c.args.table.now c.args.a c.args.b c.args.c c.n-n.result c.least_residual-m.result
+    c.n.ensures.partial_order c.requires.same_n c.requires.three c.requires.packing.residuals c.n-n.ensures.size c.least_residual-m.ensures in
     record { positive = omega (arith, c.if-m-gt0.true); within_limit = least.limit }
 
 pub returns-then-len-lt-MAX_TERMS-clause-terms : goal.returns-then-len-lt-MAX_TERMS-clause-terms
 returns-then-len-lt-MAX_TERMS-clause-terms c =
     let terms = c.args.rec.now.terms in
-    let m = c.least_margin-m.result in
+    let m = c.least_residual-m.result in
     let least = least_is c.args.weights.now c.args.fixings.now terms c.args.table.now c.args.a c.args.b c.args.c c.n-n.result m
-    c.n.ensures.partial_order c.requires.same_n c.requires.three c.requires.packing.margins c.n-n.ensures.size c.least_margin-m.ensures in
+    c.n.ensures.partial_order c.requires.same_n c.requires.three c.requires.packing.residuals c.n-n.ensures.size c.least_residual-m.ensures in
     let cut : c.unwrap-cut.result ≡ Dicycle (c.args.a ∷ c.args.b ∷ c.args.c ∷ []) = rw c.unwrap-cut.ensures at c.dicycle.ensures.ok in
     ap (λ r. r.terms) c.put.ensures
     ∙ ap (λ (k : CutKind). terms ++ record { cut = k; multiplier = m } ∷ []) cut
-    ∙ sym (pack_cycle-taken c.args.weights.now c.args.fixings.now.pairs c.args.a c.args.b c.args.c m terms least.margin (omega (arith, c.if-m-gt0.true)) (omega (arith, c.len.ensures.value, c.if-len-lt-MAX_TERMS.true)))
+    ∙ sym (pack_cycle-taken c.args.weights.now c.args.fixings.now.pairs c.args.a c.args.b c.args.c m terms least.residual (omega (arith, c.if-m-gt0.true)) (omega (arith, c.len.ensures.value, c.if-len-lt-MAX_TERMS.true)))
 
 pub returns-then-len-lt-MAX_TERMS-clause-packing : goal.returns-then-len-lt-MAX_TERMS-clause-packing
 returns-then-len-lt-MAX_TERMS-clause-packing c =
     let C = c.args.weights.now in
     let terms = c.args.rec.now.terms in
-    let m = c.least_margin-m.result in
+    let m = c.least_residual-m.result in
     let t = c.args.table.now in
     let u = c.lower_cycle.new.table in
     let least = least_is C c.args.fixings.now terms t c.args.a c.args.b c.args.c c.n-n.result m
-    c.n.ensures.partial_order c.requires.same_n c.requires.three c.requires.packing.margins c.n-n.ensures.size c.least_margin-m.ensures in
+    c.n.ensures.partial_order c.requires.same_n c.requires.three c.requires.packing.residuals c.n-n.ensures.size c.least_residual-m.ensures in
     let cut : c.unwrap-cut.result ≡ Dicycle (c.args.a ∷ c.args.b ∷ c.args.c ∷ []) = rw c.unwrap-cut.ensures at c.dicycle.ensures.ok in
     let fits : FitsCut c.n-n.result c.unwrap-cut.result = rw c.unwrap-cut.ensures at c.dicycle.ensures.fits in
     let fits_size : FitsCut C.size c.unwrap-cut.result = subst (λ (n : ℕ). FitsCut n c.unwrap-cut.result) c.n-n.ensures.size fits in
@@ -51,17 +51,17 @@ pub returns-else-m-gt0-clause-terms : goal.returns-else-m-gt0-clause-terms
 returns-else-m-gt0-clause-terms c =
     let C = c.args.weights.now in
     let terms = c.args.rec.now.terms in
-    let least = least_is C c.args.fixings.now terms c.args.table.now c.args.a c.args.b c.args.c c.n-n.result c.least_margin-m.result
-    c.n.ensures.partial_order c.requires.same_n c.requires.three c.requires.packing.margins c.n-n.ensures.size c.least_margin-m.ensures in
+    let least = least_is C c.args.fixings.now terms c.args.table.now c.args.a c.args.b c.args.c c.n-n.result c.least_residual-m.result
+    c.n.ensures.partial_order c.requires.same_n c.requires.three c.requires.packing.residuals c.n-n.ensures.size c.least_residual-m.ensures in
     elim c.else-m-gt0.branch [
       | else-m-gt0-via-then-m-gt0+else-len-lt-MAX_TERMS w ↦ sym (pack_cycle-full C c.args.fixings.now.pairs c.args.a c.args.b c.args.c terms (omega (arith, w.len.ensures.value, w.if-len-lt-MAX_TERMS.false)))
-      | else-m-gt0-via-else-m-gt0 w ↦ sym (pack_cycle-none C c.args.fixings.now.pairs c.args.a c.args.b c.args.c terms (omega (arith, least.margin, w.if-m-gt0.false)))
+      | else-m-gt0-via-else-m-gt0 w ↦ sym (pack_cycle-none C c.args.fixings.now.pairs c.args.a c.args.b c.args.c terms (omega (arith, least.residual, w.if-m-gt0.false)))
     ]
 
 pub returns-then-len-lt-MAX_TERMS-clause-later : goal.returns-then-len-lt-MAX_TERMS-clause-later
 returns-then-len-lt-MAX_TERMS-clause-later c =
     let C = c.args.weights.now in
-    let m = c.least_margin-m.result in
+    let m = c.least_residual-m.result in
     let t = c.args.table.now in
     let u = c.lower_cycle.new.table in
     let each : (x y : ℕ) → y < C.size → cell u C.size x y ≡ cond (has_pair (cycle_arcs (c.args.a ∷ c.args.b ∷ c.args.c ∷ [])) x y) (lowered (cell t C.size x y) m) (cell t C.size x y) =
@@ -73,11 +73,11 @@ pub returns-then-len-lt-MAX_TERMS-clause-passed : goal.returns-then-len-lt-MAX_T
 returns-then-len-lt-MAX_TERMS-clause-passed c =
     let C = c.args.weights.now in
     let terms = c.args.rec.now.terms in
-    let m = c.least_margin-m.result in
+    let m = c.least_residual-m.result in
     let t = c.args.table.now in
     let u = c.lower_cycle.new.table in
     let least = least_is C c.args.fixings.now terms t c.args.a c.args.b c.args.c c.n-n.result m
-    c.n.ensures.partial_order c.requires.same_n c.requires.three c.requires.packing.margins c.n-n.ensures.size c.least_margin-m.ensures in
+    c.n.ensures.partial_order c.requires.same_n c.requires.three c.requires.packing.residuals c.n-n.ensures.size c.least_residual-m.ensures in
     let each : (x y : ℕ) → y < C.size → cell u C.size x y ≡ cond (has_pair (cycle_arcs (c.args.a ∷ c.args.b ∷ c.args.c ∷ [])) x y) (lowered (cell t C.size x y) m) (cell t C.size x y) =
     subst (λ (n : ℕ). (x y : ℕ) → y < n → cell u n x y ≡ cond (has_pair (cycle_arcs (c.args.a ∷ c.args.b ∷ c.args.c ∷ [])) x y) (lowered (cell t n x y) m) (cell t n x y)) c.n-n.ensures.size c.lower_cycle.ensures.each in
     inr (spent_cycle C.size t u c.args.a c.args.b c.args.c m c.requires.three least.least least.limit each)
@@ -89,10 +89,10 @@ pub returns-else-m-gt0-clause-passed : goal.returns-else-m-gt0-clause-passed
 returns-else-m-gt0-clause-passed c =
     let C = c.args.weights.now in
     let terms = c.args.rec.now.terms in
-    let m = c.least_margin-m.result in
+    let m = c.least_residual-m.result in
     let t = c.args.table.now in
     let least = least_is C c.args.fixings.now terms t c.args.a c.args.b c.args.c c.n-n.result m
-    c.n.ensures.partial_order c.requires.same_n c.requires.three c.requires.packing.margins c.n-n.ensures.size c.least_margin-m.ensures in
+    c.n.ensures.partial_order c.requires.same_n c.requires.three c.requires.packing.residuals c.n-n.ensures.size c.least_residual-m.ensures in
     elim c.else-m-gt0.branch [
       | else-m-gt0-via-then-m-gt0+else-len-lt-MAX_TERMS w ↦ inl (omega (arith, w.len.ensures.value, w.if-len-lt-MAX_TERMS.false))
       | else-m-gt0-via-else-m-gt0 w ↦ inr (spent_none C.size t c.args.a c.args.b c.args.c (sym least.least ∙ omega (arith, w.if-m-gt0.false)))

@@ -29,7 +29,7 @@ returns-then-is_passed-clause-terms c =
     let j = c.args.j in
     let pair : IsPassedPair C.size c.loop-k.rec c.loop-k.table i j = subst (λ (n : ℕ). IsPassedPair n c.loop-k.rec c.loop-k.table i j) c.n-n.ensures.size (c.is_passed.ensures c.if-is_passed.true) in
     in_turn_still (j + 1) c.loop-k.k C.size (pack_triple C G i j) c.args.rec.now.terms c.loop-k.rec.terms (omega (arith, c.loop-k.auto.k)) (omega (arith, c.n-n.ensures.size, c.loop-k-test.true)) c.loop-k.invariant.terms
-    (λ k lk kn. triple_still C G c.loop-k.rec c.loop-k.table i j k c.loop-k.invariant.packing.margins c.requires.first (omega (arith, lk, c.loop-k.auto.k)) kn (passed_pair C.size c.loop-k.rec c.loop-k.table i j k pair))
+    (λ k lk kn. triple_still C G c.loop-k.rec c.loop-k.table i j k c.loop-k.invariant.packing.residuals c.requires.first (omega (arith, lk, c.loop-k.auto.k)) kn (passed_pair C.size c.loop-k.rec c.loop-k.table i j k pair))
 
 pub returns-then-is_passed-clause-passed : goal.returns-then-is_passed-clause-passed
 returns-then-is_passed-clause-passed c k jk kn =

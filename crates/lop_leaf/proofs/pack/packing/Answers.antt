@@ -28,9 +28,9 @@ returns-clause-at_most c =
 
 pub returns-clause-exhausted : goal.returns-clause-exhausted
 returns-clause-exhausted c =
-    all_exhausted c.args.weights.now c.args.fixings.now.pairs c.pack_all.new.rec c.pack_all.new.table c.upper.ensures.terms.bounded_count c.pack_all.ensures.packing.margins c.pack_all.ensures.passed
+    all_exhausted c.args.weights.now c.args.fixings.now.pairs c.pack_all.new.rec c.pack_all.new.table c.upper.ensures.terms.bounded_count c.pack_all.ensures.packing.residuals c.pack_all.ensures.passed
 
 pub returns-clause-packed_exhausted : goal.returns-clause-packed_exhausted
 returns-clause-packed_exhausted c k d l =
     let terms = c.pack_all.new.rec.terms in
-    exhausted c.args.weights.now c.args.fixings.now.pairs terms c.pack_all.new.table (get_or terms k d).cut c.pack_all.ensures.packing.margins (c.pack_all.ensures.packing.spent k d l)
+    exhausted c.args.weights.now c.args.fixings.now.pairs terms c.pack_all.new.table (get_or terms k d).cut c.pack_all.ensures.packing.residuals (c.pack_all.ensures.packing.spent k d l)

@@ -6,7 +6,7 @@ use Rattle.lop_model.specs.Fixings.{has_pair, one_pair}
 use Rattle.lop_leaf.specs.Packing.{positive_part}
 use Rattle.lop_leaf.proofs.FallLemmas.{false_from_not, not_both}
 use Rattle.lop_leaf.proofs.PackingLemmas.{free_word}
-use Rattle.lop_leaf.proofs.pack.margin_at.Goals as goal
+use Rattle.lop_leaf.proofs.pack.residual_at.Goals as goal
 
 pub returns-in-Before : goal.returns-in-Before
 returns-in-Before c =

@@ -1,4 +1,4 @@
--- Margins in words of 64 bits, and what a step of packing makes of them.
+-- Residuals in words of 64 bits, and what a step of packing makes of them.
 use Rattle.std.proofs.Common.{◌≡◌, ◌⊎◌, ℕ, ◌+◌, ◌-◌, ◌^◌, ◌<◌, ◌≤◌, min, Bool, true, false, cond, eqb, ltb, ◌&&◌, ◌||◌, List, [], ◌∷◌, ◌++◌, length, refl, sym, ◌∙◌, ap, inl, inr, Option, Some, None, ℤ, pos, negsuc, ◌-ℤ◌, ◌*ℤ◌, ◌≤ℤ◌, arith}
 use Rattle.std.proofs.lemmas.Int.{ints, by_lt_z}
 use Rattle.std.proofs.lemmas.Bool.Decides.{nat_tests}
@@ -10,8 +10,8 @@ use Rattle.lop_cuts.specs.Arcs.{cycle_arcs}
 use Rattle.lop_cuts.specs.Kind.{arcs_of}
 use Rattle.lop_cuts.specs.Lagrangian.{Term, charge, reduced_entry}
 use Rattle.lop_fix.specs.PartialOrder.{IsPartialOrder}
-use Rattle.lop_leaf.specs.Packing.{positive_part, margin, lesser, margin_number, cycle_margin, dicycle, pack_cycle, AreThree}
-use Rattle.lop_leaf.specs.Table.{IsMarginWord, lowered}
+use Rattle.lop_leaf.specs.Packing.{positive_part, residual, lesser, residual_number, cycle_residual, dicycle, pack_cycle, AreThree}
+use Rattle.lop_leaf.specs.Table.{IsResidualWord, lowered}
 
 -- ---- positive parts
 
@@ -34,8 +34,8 @@ part-positive x w e h = by_lt_z (pos 0) x
 
 -- ---- words
 
-abbrev pub margin_of : Bool → Bool → ℤ → Option ℕ
-margin_of g h d = cond g (Some 0) (cond h None (Some (positive_part d)))
+abbrev pub residual_of : Bool → Bool → ℤ → Option ℕ
+residual_of g h d = cond g (Some 0) (cond h None (Some (positive_part d)))
 
 pub lowered-limited : (w m : ℕ) → w < 2 ^ 63 → lowered w m ≡ w - m
 lowered-limited w m l = let test : eqb w (2 ^ 64 - 1) ≡ false = grind (arith, nat_tests) in rw test refl
@@ -48,28 +48,28 @@ pub lowered-zero : (p : Bool) (w m : ℕ) → w ≡ 0 → cond p (lowered w m) w
 lowered-zero true w m e = lowered-limited w m (omega arith) ∙ omega arith
 lowered-zero false w m e = e
 
-lowered_arc : (u v : ℤ) (w m : ℕ) → w ≡ positive_part (u -ℤ v) → w < 2 ^ 63 → 0 < m → m ≤ w → IsMarginWord (Some (positive_part ((u -ℤ pos m) -ℤ (v -ℤ pos 0)))) (lowered w m)
+lowered_arc : (u v : ℤ) (w m : ℕ) → w ≡ positive_part (u -ℤ v) → w < 2 ^ 63 → 0 < m → m ≤ w → IsResidualWord (Some (positive_part ((u -ℤ pos m) -ℤ (v -ℤ pos 0)))) (lowered w m)
 lowered_arc u v w m e l h k =
     let is : u -ℤ v ≡ pos w = part-positive (u -ℤ v) w e (omega arith) in
     let left : positive_part ((u -ℤ pos m) -ℤ (v -ℤ pos 0)) ≡ w - m = part-is ((u -ℤ pos m) -ℤ (v -ℤ pos 0)) (w - m) (omega (arith, ints)) in
     (lowered-limited w m l ∙ sym left, omega (arith, left))
 
-raised_reverse : (u v : ℤ) (w w2 m : ℕ) → w ≡ positive_part (u -ℤ v) → w2 ≡ positive_part (v -ℤ u) → 0 < m → m ≤ w2 → IsMarginWord (Some (positive_part ((u -ℤ pos 0) -ℤ (v -ℤ pos m)))) w
+raised_reverse : (u v : ℤ) (w w2 m : ℕ) → w ≡ positive_part (u -ℤ v) → w2 ≡ positive_part (v -ℤ u) → 0 < m → m ≤ w2 → IsResidualWord (Some (positive_part ((u -ℤ pos 0) -ℤ (v -ℤ pos m)))) w
 raised_reverse u v w w2 m e f h k =
     let is : v -ℤ u ≡ pos w2 = part-positive (v -ℤ u) w2 f (omega arith) in
     let before : positive_part (u -ℤ v) ≡ 0 = part-to_zero (u -ℤ v) (omega (arith, ints)) in
     let after : positive_part ((u -ℤ pos 0) -ℤ (v -ℤ pos m)) ≡ 0 = part-to_zero ((u -ℤ pos 0) -ℤ (v -ℤ pos m)) (omega (arith, ints)) in
     (e ∙ before ∙ sym after, omega (arith, after))
 
-unchanged : (u v : ℤ) (w : ℕ) → w ≡ positive_part (u -ℤ v) → w < 2 ^ 63 → IsMarginWord (Some (positive_part ((u -ℤ pos 0) -ℤ (v -ℤ pos 0)))) w
+unchanged : (u v : ℤ) (w : ℕ) → w ≡ positive_part (u -ℤ v) → w < 2 ^ 63 → IsResidualWord (Some (positive_part ((u -ℤ pos 0) -ℤ (v -ℤ pos 0)))) w
 unchanged u v w e l =
     let same : (u -ℤ pos 0) -ℤ (v -ℤ pos 0) ≡ u -ℤ v = omega (arith, ints) in
     let part : positive_part ((u -ℤ pos 0) -ℤ (v -ℤ pos 0)) ≡ positive_part (u -ℤ v) = ap positive_part same in
     (e ∙ sym part, omega (arith, part, e))
 
 -- the word of an arc after m has been taken off the arcs of a cycle: p says that it is one of them, q that its reverse is
-pub word_step : (g h p q : Bool) (u v : ℤ) (w w2 m : ℕ) → IsMarginWord (margin_of g h (u -ℤ v)) w → IsMarginWord (margin_of h g (v -ℤ u)) w2 → 0 < m → (p ≡ true → m ≤ w) → (q ≡ true → m ≤ w2) → (p ≡ true → q ≡ true → ⊥)
-    → IsMarginWord (margin_of g h ((u -ℤ pos (cond p m 0)) -ℤ (v -ℤ pos (cond q m 0)))) (cond p (lowered w m) w)
+pub word_step : (g h p q : Bool) (u v : ℤ) (w w2 m : ℕ) → IsResidualWord (residual_of g h (u -ℤ v)) w → IsResidualWord (residual_of h g (v -ℤ u)) w2 → 0 < m → (p ≡ true → m ≤ w) → (q ≡ true → m ≤ w2) → (p ≡ true → q ≡ true → ⊥)
+    → IsResidualWord (residual_of g h ((u -ℤ pos (cond p m 0)) -ℤ (v -ℤ pos (cond q m 0)))) (cond p (lowered w m) w)
 word_step true h true q u v w w2 m e f z k l o = let most : m ≤ w = k refl in absurd (omega (arith, e.0))
 word_step true h false q u v w w2 m e f z k l o = e
 word_step false true true q u v w w2 m e f z k l o = lowered-free w m e ∙ e
@@ -81,8 +81,8 @@ word_step false false false false u v w w2 m e f z k l o = unchanged u v w e.0 (
 
 -- ---- the least of three
 
--- the least margin of a cycle, where not all are without limit, is the least of the words
-pub least_word : (A B D : Option ℕ) (x y z : ℕ) → IsMarginWord A x → IsMarginWord B y → IsMarginWord D z → (A ≡ None → B ≡ None → D ≡ None → ⊥) → (margin_number (lesser A (lesser B D)) ≡ min x (min y z)) × (min x (min y z) < 2 ^ 63)
+-- the least residual of a cycle, where not all are without limit, is the least of the words
+pub least_word : (A B D : Option ℕ) (x y z : ℕ) → IsResidualWord A x → IsResidualWord B y → IsResidualWord D z → (A ≡ None → B ≡ None → D ≡ None → ⊥) → (residual_number (lesser A (lesser B D)) ≡ min x (min y z)) × (min x (min y z) < 2 ^ 63)
 least_word (Some a) (Some b) (Some d) x y z e f g o = (omega (arith, e.0, f.0, g.0), omega (arith, e.0, e.1, f.0, g.0))
 least_word (Some a) (Some b) None x y z e f g o = (omega (arith, e.0, e.1, f.0, f.1, g), omega (arith, e.0, e.1, f.0, g))
 least_word (Some a) None (Some d) x y z e f g o = (omega (arith, e.0, e.1, f, g.0, g.1), omega (arith, e.0, e.1, f, g.0))
@@ -92,13 +92,13 @@ least_word None (Some b) None x y z e f g o = (omega (arith, e, f.0, f.1, g), om
 least_word None None (Some d) x y z e f g o = (omega (arith, e, f, g.0, g.1), omega (arith, e, f, g.0, g.1))
 least_word None None None x y z e f g o = absurd (o refl refl refl)
 
-unlimited : (g h : Bool) (d : ℤ) → margin_of g h d ≡ None → h ≡ true
+unlimited : (g h : Bool) (d : ℤ) → residual_of g h d ≡ None → h ≡ true
 unlimited true h d e = absurd (cc)
 unlimited false true d e = refl
 unlimited false false d e = absurd (cc)
 
--- where the pairs have no cycle, the arcs of a cycle don't all have margins without limit
-pub limited : (n : ℕ) (G : List Pair) (r : ℕ → ℕ → ℤ) (a b c : ℕ) → IsPartialOrder (record { size = n; pairs = G }) → margin G r a b ≡ None → margin G r b c ≡ None → margin G r c a ≡ None → ⊥
+-- where the pairs have no cycle, the arcs of a cycle don't all have residuals without limit
+pub limited : (n : ℕ) (G : List Pair) (r : ℕ → ℕ → ℤ) (a b c : ℕ) → IsPartialOrder (record { size = n; pairs = G }) → residual G r a b ≡ None → residual G r b c ≡ None → residual G r c a ≡ None → ⊥
 limited n G r a b c is e f g =
     let ab : has_pair G a b ≡ true = unlimited (has_pair G b a) (has_pair G a b) (r a b -ℤ r b a) e in
     let bc : has_pair G b c ≡ true = unlimited (has_pair G c b) (has_pair G b c) (r b c -ℤ r c b) f in
@@ -176,18 +176,18 @@ below_true x y l = grind (arith, nat_tests)
 below_false : (x y : ℕ) → y ≤ x → ltb x y ≡ false
 below_false x y l = grind (arith, nat_tests)
 
-pub pack_cycle-taken : (C : Matrix) (G : List Pair) (a b c m : ℕ) (terms : List Term) → cycle_margin G (reduced_entry C 1 terms) a b c ≡ m → 0 < m → length terms < 4096 → pack_cycle C G a b c terms ≡ terms ++ dicycle a b c m ∷ []
+pub pack_cycle-taken : (C : Matrix) (G : List Pair) (a b c m : ℕ) (terms : List Term) → cycle_residual G (reduced_entry C 1 terms) a b c ≡ m → 0 < m → length terms < 4096 → pack_cycle C G a b c terms ≡ terms ++ dicycle a b c m ∷ []
 pack_cycle-taken C G a b c m terms e h l =
-    let k = cycle_margin G (reduced_entry C 1 terms) a b c in
+    let k = cycle_residual G (reduced_entry C 1 terms) a b c in
     both_hold (ltb 0 k) (ltb (length terms) 4096) (terms ++ dicycle a b c k ∷ []) terms (below_true 0 k (omega (arith, e))) (below_true (length terms) 4096 l)
     ∙ ap (λ j. terms ++ dicycle a b c j ∷ []) e
 
-pub pack_cycle-none : (C : Matrix) (G : List Pair) (a b c : ℕ) (terms : List Term) → cycle_margin G (reduced_entry C 1 terms) a b c ≡ 0 → pack_cycle C G a b c terms ≡ terms
+pub pack_cycle-none : (C : Matrix) (G : List Pair) (a b c : ℕ) (terms : List Term) → cycle_residual G (reduced_entry C 1 terms) a b c ≡ 0 → pack_cycle C G a b c terms ≡ terms
 pack_cycle-none C G a b c terms e =
-    let k = cycle_margin G (reduced_entry C 1 terms) a b c in
+    let k = cycle_residual G (reduced_entry C 1 terms) a b c in
     first_fails (ltb 0 k) (ltb (length terms) 4096) (terms ++ dicycle a b c k ∷ []) terms (below_false 0 k (omega (arith, e)))
 
 pub pack_cycle-full : (C : Matrix) (G : List Pair) (a b c : ℕ) (terms : List Term) → 4096 ≤ length terms → pack_cycle C G a b c terms ≡ terms
 pack_cycle-full C G a b c terms l =
-    let k = cycle_margin G (reduced_entry C 1 terms) a b c in
+    let k = cycle_residual G (reduced_entry C 1 terms) a b c in
     second_fails (ltb 0 k) (ltb (length terms) 4096) (terms ++ dicycle a b c k ∷ []) terms (below_false (length terms) 4096 l)

@@ -423,12 +423,10 @@ report_low view w found h kept few out sound = let may = may_report view w found
 
 -- the candidates after a report, by the bound as the code passed it on
 pub report_candidates : (view : CoreFields) (w : ℕ) (found : EvaluatedFields) (nodes : List SearchNode) (best : ℤ) (journal : List Entry) (order : List ℕ) (split : Option ℕ) (zk : ℤ) (cs more : List Candidate) → Leaves view w found nodes best journal order
-    → HasHistory view → AreRecorded view → IsScaledTerms found.shown → IsOutTo view.state w found.node → IsSoundReport view found → AreCandidates view.state.nodes view.state.best cs → zk ≡ kept_bound view found
+    → HasHistory view → AreRecorded view → IsScaledTerms found.shown → IsOutTo view.state w found.node → IsSoundReport view found → AreCandidates view.state.nodes best cs → zk ≡ kept_bound view found
     → IfSome split (λ first. (first ≡ length view.state.nodes) × (length nodes ≡ length view.state.nodes + 2)) → IfNone split (length nodes ≡ length view.state.nodes)
     → IfSome split (λ first. IsPermutation (candidate zk (first + 1) ∷ candidate zk first ∷ cs) more) → IfNone split (more ≡ cs) → IsHeap candidate_order more → AreCandidates nodes best more
 report_candidates view w found nodes best journal order split zk cs more leaves h kept few out sound candidates ek grows stays put same heap =
-    let inside : found.node < length view.state.nodes = slice_get_within view.state.nodes found.node out.0 out.1 in
     let low = subst (λ (b : ℤ). IfNone found.pair (kept_bound view found ≤ℤ b)) (sym leaves.best_is) (report_low view w found h kept few out sound) in
-    let rises : view.state.best ≤ℤ best = rw leaves.best_is (omega (arith, ints, clamps)) in
     let put' = subst (λ (z : ℤ). IfSome split (λ first. IsPermutation (candidate z (first + 1) ∷ candidate z first ∷ cs) more)) ek put in
-    reported_candidates view.state.nodes view.state.best best (kept_bound view found) found.node found.pair split nodes cs more candidates inside rises low leaves.nodes_are grows stays put' same heap
+    reported_candidates view.state.nodes best (kept_bound view found) found.node w found.pair split nodes cs more candidates out.0 out.1 out.2 low leaves.nodes_are grows stays put' same heap

@@ -12,6 +12,7 @@ pub mod Linked
 pub mod Scans
 pub mod CandidateLemmas
 pub mod CandidateSteps
+pub mod ReadyCount
 pub mod PackedLemmas
 pub mod Certified
 pub mod BookLemmas

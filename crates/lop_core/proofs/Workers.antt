@@ -98,10 +98,10 @@ other_entry : (problem : Problem) (journal : List Entry) (e : Entry) (w i : ℕ)
     → (x : SearchNode) → slice_get (replay problem journal).nodes i ≡ Some x → slice_get (after (replay problem journal) e).nodes i ≡ Some x
 other_entry problem journal (Take v n) w i may out none x there =
     let other : i ≢ n = λ same.
-        let at : slice_get (replay problem journal).nodes i ≡ Some may.ready.it = ap (slice_get (replay problem journal).nodes) same ∙ may.ready.is_there in
-        let one : out.0 ≡ may.ready.it = same_Some out.0 may.ready.it (sym out.1 ∙ at) in
-        let no : Idle ≡ Out w = sym may.ready.idle ∙ (ap (λ (y : SearchNode). y.standing) (sym one) ∙ out.2) in
-        cc in
+    let at : slice_get (replay problem journal).nodes i ≡ Some may.ready.it = ap (slice_get (replay problem journal).nodes) same ∙ may.ready.is_there in
+    let one : out.0 ≡ may.ready.it = same_Some out.0 may.ready.it (sym out.1 ∙ at) in
+    let no : Idle ≡ Out w = sym may.ready.idle ∙ (ap (λ (y : SearchNode). y.standing) (sym one) ∙ out.2) in
+    cc in
     (take_effect problem (replay problem journal) v n may).kept i x other there
 other_entry problem journal (Report v n bound pair value room) w i may out none x there =
     (report_effect problem journal v n bound pair value room may).0.kept i x (report_apart (replay problem journal) journal v n bound pair value room w i may.is_out out none) there

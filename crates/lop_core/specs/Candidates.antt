@@ -1,5 +1,5 @@
 -- The candidates for the next take: the nodes that may be handed out, the best first.
-use Rattle.std.specs.Prelude.{◌≡◌, ℕ, ℤ, ◌+◌, ◌<◌, ◌≤◌, List, length, slice_get, Some, All, Contains}
+use Rattle.std.specs.Prelude.{◌≡◌, ◌≢◌, ℕ, ℤ, ◌+◌, ◌≤◌, List, slice_get, Some, All, AllPairs, Contains, vec_capacity}
 use Rattle.std.specs.declared.cmp.Ordering.{Ordering}
 use Rattle.std.specs.Ordering.{int_cmp, nat_cmp, ordering_then}
 use Rattle.std.specs.BinaryHeap.{IsHeap, heap_items, heap_len, heap_capacity}
@@ -35,15 +35,17 @@ pub record IsTop (cs : List Candidate) (node : ℕ) : Type 0 where
   pub is_there : slice_get cs 0 ≡ Some top
   pub names : top.node.0 ≡ node
 
--- each live idle node has a candidate with its bound, the top is the greatest, and no candidate of such a node has another bound
+-- the candidates are the live idle nodes, each once with its bound, and the top is the greatest
 pub record AreCandidates (nodes : List SearchNode) (best : ℤ) (cs : List Candidate) : Type 0 where
   pub ordered : IsHeap candidate_order cs
   pub every : (node : ℕ) → IsReady nodes best node → Contains cs (candidate (node_at nodes node).bound node)
-  pub inside : All (λ c. c.node.0 < length nodes) cs
-  pub own : All (λ c. IsReady nodes best c.node.0 → c.bound ≡ (node_at nodes c.node.0).bound) cs
+  pub ready : All (λ c. IsReady nodes best c.node.0) cs
+  pub own : All (λ c. c.bound ≡ (node_at nodes c.node.0).bound) cs
+  pub different : AllPairs (λ c d. c.node.0 ≢ d.node.0) cs
 
 -- the candidates of a state of which so many nodes are out, and their room: for one more than the budget, and the candidates and the nodes that are out are at most one more than the evaluated nodes
 pub record HasCandidates (s : SearchState) (budget out : ℕ) (c : Candidates) : Type 0 where
   pub kept : AreCandidates s.nodes s.best (candidates_of c)
   pub few : candidate_count c + out ≤ s.evaluated + 1
   pub room : budget + 1 ≤ candidate_room c
+  pub spare : budget + 1 ≤ vec_capacity c.spare

@@ -1,7 +1,7 @@
 // Scans over the nodes.
 ghost use Rattle.std.specs.Prelude.{◌≡◌, ℕ, ◌<◌, ◌^◌, length, fold, not, ◌&&◌, int_lt, IfSome, IfNone};
-ghost use Rattle.lop_core.specs.Tree.{is_split, is_idle};
-ghost use Rattle.lop_core.specs.Machine.{IsLive, live_count, ready_count, raised_by};
+ghost use Rattle.lop_core.specs.Tree.{is_split};
+ghost use Rattle.lop_core.specs.Machine.{IsLive, live_count, raised_by};
 
 use crate::node::{SearchNode, Standing};
 
@@ -12,16 +12,6 @@ fn is_live(node: SearchNode, best: i128) -> bool
     match node.standing {
         Standing::Split(_) => false,
         Standing::Idle | Standing::Out(_) => node.bound > best,
-    }
-}
-
-/// Whether the node is idle and its bound exceeds best.
-pub fn is_ready(node: SearchNode, best: i128) -> bool
-    ensures { result ≡ (is_idle node.standing && int_lt best node.bound) }
-{
-    match node.standing {
-        Standing::Idle => node.bound > best,
-        Standing::Out(_) | Standing::Split(_) => false,
     }
 }
 
@@ -46,20 +36,6 @@ pub fn count_live(nodes: &[SearchNode], best: i128) -> u32
     let mut count = 0;
     for node in nodes {
         if is_live(*node, best) {
-            count += 1;
-        }
-    }
-    count
-}
-
-/// How many nodes are live and idle.
-pub fn count_ready(nodes: &[SearchNode], best: i128) -> u32
-    requires { length nodes.now < 2 ^ 32 }
-    ensures { result ≡ ready_count nodes.now best }
-{
-    let mut count = 0;
-    for node in nodes {
-        if is_ready(*node, best) {
             count += 1;
         }
     }

@@ -23,7 +23,7 @@ use crate::path::write_ticket;
 use crate::records::Records;
 use crate::reply::{ReportReply, TakeReply};
 use crate::room::put_last;
-use crate::scan::{count_live, count_ready, first_live, greatest_bound};
+use crate::scan::{count_live, first_live, greatest_bound};
 use crate::settle::{child, either, is_out_to, keep_better, settle};
 use crate::start::root_bound;
 use lop_cuts::Cut;
@@ -107,7 +107,7 @@ impl Core {
         let mut kept = Order::first(alloc, n)?;
         kept.copy_from(order);
         let mut candidates = Candidates::with_room(alloc, budget as usize + 1)?;
-        candidates.put(0, bound);
+        candidates.put_live(0, bound, best);
         Ok(Core {
             weights: weights.copy()?,
             start: best,
@@ -124,8 +124,8 @@ impl Core {
     }
 
     /// Hands out the live idle node with the greatest bound, and of several the one with the lowest number. O(log of the
-    /// number of candidates) for it and for each candidate that is dropped, which each is once at most, and O(the path
-    /// and the terms) for the ticket. Where no node is ready, O(the number of nodes).
+    /// number of live idle nodes), and O(the path and the terms) for the ticket. Where no node is live and idle, O(the
+    /// number of nodes).
     pub fn take(&mut self, worker: u32, into: &mut Ticket) -> TakeReply
         requires same_n { into.old.size ≡ self.old.problem.weights.size }
         ensures step { IsTake self.old into.old worker result self.new into.new }
@@ -149,8 +149,9 @@ impl Core {
         TakeReply::Node
     }
 
-    /// Takes in what a worker found at a node that is out to it. O(n), and O(log of the number of candidates) where the
-    /// node is split.
+    /// Takes in what a worker found at a node that is out to it. O(n) and O(the record's terms, each with the log of the
+    /// number of cuts), and O(log of the number of live idle nodes) where the node is split; where best rises, O(the
+    /// number of live idle nodes).
     pub fn report(&mut self, worker: u32, found: &Evaluated) -> ReportReply
         requires sound { IsOutTo self.old.state worker found.now.node → IsSoundReport self.old found.now }
         ensures step { IsReport self.old worker found.now result self.new }
@@ -165,7 +166,9 @@ impl Core {
         }
         let pair = found.pair();
         let value = found.value();
+        let before = self.best;
         keep_better(&mut self.best, &mut self.order, value, found.order());
+        self.candidates.raise(&self.nodes, before, self.best);
         self.evaluated += 1;
         self.out -= 1;
         let room = self.records.offer(index, found.shown());
@@ -257,11 +260,11 @@ impl Core {
         count_live(&self.nodes, self.best)
     }
 
-    /// How many of the live nodes are idle. O(the number of nodes).
+    /// How many of the live nodes are idle. O(1).
     pub fn idle_live(&self) -> u32
         ensures { result ≡ ready_count self.now.state.nodes self.now.state.best }
     {
-        count_ready(&self.nodes, self.best)
+        self.candidates.len() as u32
     }
 
     /// The number of nodes: at most 2 · n! − 1, and at least the number of those that were evaluated.

@@ -1,5 +1,7 @@
-use Rattle.std.proofs.Common.{rules, ◌≡◌, ◌<◌, ◌≤◌, length, arith, sym, ◌∙◌, ap, subst, FitsSigned, refl, true, false, to_z, of_z}
-use Rattle.std.proofs.lemmas.Int.{to_z-of_z}
+use Rattle.std.proofs.Common.{vec_capacity, rules, ◌≡◌, ◌<◌, ◌≤◌, length, arith, sym, ◌∙◌, ap, subst, FitsSigned, refl, true, false, to_z, of_z}
+use Rattle.std.specs.Prelude.{ℤ, ◌≤ℤ◌}
+use Rattle.std.specs.Int.{int_max}
+use Rattle.std.proofs.lemmas.Int.{to_z-of_z, ints, clamps}
 use Rattle.std.proofs.lemmas.Option.{IfSome_then}
 use mir.Syntax.{w128}
 use Rattle.lop_core.specs.declared.node.Standing.TheVariants.{Out}
@@ -8,6 +10,7 @@ use Rattle.lop_core.specs.Records.{with_children, record_at}
 use Rattle.lop_core.specs.Core.{CoreFields, IsSoundReport}
 use Rattle.lop_core.specs.contracts.search.Core.{the_view}
 use Rattle.lop_core.proofs.CoreLemmas.{core_counted, report_counts, out_to, not_out_to, not_there, Leaves, leaves_by, left_true, left_outs, left_noted, left_keeps, kept_is, room_is, taken_is, report_facts, report_laws, report_candidates, if_some}
+use Rattle.lop_core.proofs.CandidateLemmas.{candidates_in}
 use Rattle.lop_core.proofs.BookLemmas.{GrownBook, grown_by}
 use Rattle.lop_core.specs.Candidates.{candidates_of}
 use Rattle.lop_core.specs.Kept.{book_of, kept_of, record_of}
@@ -15,6 +18,9 @@ use Rattle.lop_leaf.specs.Record.{IsScaledTerms}
 use Rattle.std.proofs.lemmas.List.{length-map}
 use Rattle.lop_core.proofs.search.Core.report.Goals as goal
 use Rattle.lop_core.proofs.search.Core.report.Goals.{in-Some, in-None}
+
+le_greater : (old new value : ℤ) → new ≡ int_max old value → old ≤ℤ new
+le_greater old new value e = rw e (omega (arith, ints, clamps))
 
 pub returns-then-index-len : goal.returns-then-index-len
 returns-then-index-len c =
@@ -59,6 +65,19 @@ offer-room-requires-clause-small c =
     let h = core_counted _ c.self.invariant.0 in
     let kept : length (kept_of c.self.inside.records) ≡ length c.self.inside.records.spans.items = length-map c.self.inside.records.spans.items (record_of c.self.inside.records.terms.items) in
     omega (arith, kept, c.self.invariant.1.kept, h.within, c.self.invariant.2.within_limit)
+
+pub raise-requires-clause-rises : goal.raise-requires-clause-rises
+raise-requires-clause-rises c =
+    let fb : FitsSigned w128 c.self.inside.best = search rules in
+    let fx : FitsSigned w128 c.keep_better.new.best = search rules in
+    let a = to_z-of_z w128 c.self.inside.best fb in
+    let b = to_z-of_z w128 c.keep_better.new.best fx in
+    subst (λ (z : ℤ). z ≤ℤ to_z w128 (of_z w128 c.keep_better.new.best)) (sym a) (subst (λ (z : ℤ). c.self.inside.best ≤ℤ z) (sym b) (le_greater c.self.inside.best c.keep_better.new.best _ c.keep_better.ensures.best))
+
+pub raise-requires-clause-spare : goal.raise-requires-clause-spare
+raise-requires-clause-spare c =
+    let h = core_counted _ c.self.invariant.0 in
+    omega (arith, c.self.invariant.6.few, c.self.invariant.6.spare, h.within)
 
 pub put_last-requires : goal.put_last-requires
 put_last-requires c =
@@ -117,7 +136,7 @@ put_children-requires-clause-room c =
     let out = out_to (the_view c.self.inside).state c.args.worker c.node-node.result c.index.result.now lt c.index.ensures (c.if-not-is_out_to.ensures.0 refl) in
     let h = core_counted _ c.self.invariant.0 in
     let one = report_counts (the_view c.self.inside) c.args.worker c.node-node.result c.self.invariant.0 out in
-    if_some c.settle-split.result (omega (arith, h.within, one, c.self.invariant.3, c.self.invariant.6.few, c.self.invariant.6.room))
+    if_some c.settle-split.result (omega (arith, h.within, one, c.self.invariant.3, c.self.invariant.6.few, c.self.invariant.6.room, c.raise.ensures.count, c.raise.ensures.room))
 
 pub put_children-requires-clause-small : goal.put_children-requires-clause-small
 put_children-requires-clause-small c =
@@ -165,11 +184,12 @@ invariant_of-self c =
       c.inherit.ensures.kept,
       c.inherit.ensures.term_room ∙ c.offer-room.ensures.term_room ∙ c.self.invariant.5,
       record {
-        kept = report_candidates (the_view c.self.inside) c.args.worker c.args.found.now _ _ _ _ c.settle-split.result _ (candidates_of c.self.inside.candidates) (candidates_of c.put_children.new.self) l
-            c.self.invariant.0 c.self.invariant.1 few out sound c.self.invariant.6.kept (to_z-of_z w128 c.either-bound.result fk ∙ c.either-bound.ensures ∙ kept)
-            c.settle-split.ensures.first c.settle-split.ensures.closed c.put_children.ensures.split c.put_children.ensures.closed (c.put_children.ensures.ordered c.self.invariant.6.kept.ordered);
-        few = omega (arith, c.self.invariant.3, c.self.invariant.6.few, c.put_children.ensures.count, report_counts (the_view c.self.inside) c.args.worker c.args.found.now.node c.self.invariant.0 out);
-        room = omega (arith, c.self.invariant.6.room, c.put_children.ensures.room);
+        kept = report_candidates (the_view c.self.inside) c.args.worker c.args.found.now _ _ _ _ c.settle-split.result _ (candidates_of c.raise.new.self) (candidates_of c.put_children.new.self) l
+            c.self.invariant.0 c.self.invariant.1 few out sound (candidates_in c.self.inside.nodes.items c.deref.result.now c.keep_better.new.best (to_z w128 (of_z w128 c.keep_better.new.best)) (candidates_of c.raise.new.self) c.deref.ensures.value (to_z-of_z w128 c.keep_better.new.best fx) c.raise.ensures.kept) (to_z-of_z w128 c.either-bound.result fk ∙ c.either-bound.ensures ∙ kept)
+            c.settle-split.ensures.first c.settle-split.ensures.closed c.put_children.ensures.split c.put_children.ensures.closed (c.put_children.ensures.ordered (candidates_in c.self.inside.nodes.items c.deref.result.now c.keep_better.new.best (to_z w128 (of_z w128 c.keep_better.new.best)) (candidates_of c.raise.new.self) c.deref.ensures.value (to_z-of_z w128 c.keep_better.new.best fx) c.raise.ensures.kept).ordered);
+        few = omega (arith, c.self.invariant.3, c.self.invariant.6.few, c.raise.ensures.count, c.put_children.ensures.count, report_counts (the_view c.self.inside) c.args.worker c.args.found.now.node c.self.invariant.0 out);
+        room = omega (arith, c.self.invariant.6.room, c.raise.ensures.room, c.put_children.ensures.room);
+        spare = omega (arith, c.self.invariant.6.spare, c.raise.ensures.spare, ap vec_capacity c.put_children.ensures.spare);
       },
     )
 

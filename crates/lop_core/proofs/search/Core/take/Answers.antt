@@ -1,4 +1,5 @@
 use Rattle.std.proofs.Common.{rules, ◌≡◌, ℕ, ◌+◌, ◌<◌, length, arith, sym, ◌∙◌, ap, subst, refl, FitsSigned}
+use Rattle.std.specs.Prelude.{vec_capacity}
 use Rattle.std.proofs.lemmas.Int.{to_z-of_z}
 use Rattle.std.proofs.lemmas.List.{length-map}
 use Rattle.std.proofs.lemmas.Option.{slice_get_within}
@@ -7,7 +8,6 @@ use Rattle.lop_core.specs.Tree.{AreLinked, out_count}
 use Rattle.lop_core.specs.Core.{CoreFields, HasHistory}
 use Rattle.lop_core.specs.Candidates.{candidates_of}
 use Rattle.lop_core.specs.contracts.search.Core.{the_view}
-use Rattle.lop_core.proofs.CandidateLemmas.{candidates_in}
 use Rattle.lop_core.proofs.CandidateSteps.{taken_candidates}
 use Rattle.lop_core.proofs.Linked.{core_linked}
 use Rattle.lop_core.proofs.BookLemmas.{take_recorded}
@@ -67,40 +67,6 @@ put_last-requires c =
 
 pub invariant_of-self : goal.invariant_of-self
 invariant_of-self c =
-    let f : FitsSigned w128 c.self.inside.best = search rules in
-    let h = c.self.invariant.6 in (
-      c.self.invariant.0,
-      c.self.invariant.1,
-      c.self.invariant.2,
-      c.self.invariant.3,
-      c.self.invariant.4,
-      c.self.invariant.5,
-      record {
-        kept = candidates_in c.self.inside.nodes.items c.deref.result.now c.self.inside.best _ _ c.deref.ensures.value (to_z-of_z w128 c.self.inside.best f) c.first_ready.ensures.kept;
-        few = omega (arith, h.few, c.first_ready.ensures.count);
-        room = omega (arith, h.room, c.first_ready.ensures.room);
-      },
-    )
-
-pub invariant_of-self-then-self : goal.invariant_of-self-then-self
-invariant_of-self-then-self c =
-    let f : FitsSigned w128 c.self.inside.best = search rules in
-    let h = c.self.invariant.6 in (
-      c.self.invariant.0,
-      c.self.invariant.1,
-      c.self.invariant.2,
-      c.self.invariant.3,
-      c.self.invariant.4,
-      c.self.invariant.5,
-      record {
-        kept = candidates_in c.self.inside.nodes.items c.deref.result.now c.self.inside.best _ _ c.deref.ensures.value (to_z-of_z w128 c.self.inside.best f) c.first_ready.ensures.kept;
-        few = omega (arith, h.few, c.first_ready.ensures.count);
-        room = omega (arith, h.room, c.first_ready.ensures.room);
-      },
-    )
-
-pub invariant_of-self-2 : goal.invariant_of-self-2
-invariant_of-self-2 c =
     let r = c.in-Some.ensures.found.ready in
     let f : FitsSigned w128 c.self.inside.best = search rules in
     let may = may_take (the_view c.self.inside).problem (the_view c.self.inside).state c.in-Some.node c.self.inside.out c.deref.result.now _ c.deref.ensures.value (to_z-of_z w128 c.self.inside.best f) c.self.invariant.3 r c.if-self.false in
@@ -123,11 +89,11 @@ invariant_of-self-2 c =
       c.self.invariant.4,
       c.self.invariant.5,
       record {
-        kept = taken_candidates c.self.inside.nodes.items c.self.inside.best c.in-Some.node c.args.worker (candidates_of c.first_ready.new.self) (candidates_of c.remove_top.new.self) _
-            (candidates_in c.self.inside.nodes.items c.deref.result.now c.self.inside.best _ _ c.deref.ensures.value (to_z-of_z w128 c.self.inside.best f) c.first_ready.ensures.kept)
-            c.in-Some.ensures.top inside c.remove_top.ensures.less (c.remove_top.ensures.ordered c.first_ready.ensures.kept.ordered) nodes;
-        few = omega (arith, c.self.invariant.6.few, c.first_ready.ensures.count, c.remove_top.ensures.count);
-        room = omega (arith, c.self.invariant.6.room, c.first_ready.ensures.room, c.remove_top.ensures.room);
+        kept = taken_candidates c.self.inside.nodes.items c.self.inside.best c.in-Some.node c.args.worker (candidates_of c.self.inside.candidates) (candidates_of c.remove_top.new.self) _ c.self.invariant.6.kept
+            c.in-Some.ensures.top inside c.remove_top.ensures.less (c.remove_top.ensures.ordered c.self.invariant.6.kept.ordered) nodes;
+        few = omega (arith, c.self.invariant.6.few, c.remove_top.ensures.count);
+        room = omega (arith, c.self.invariant.6.room, c.remove_top.ensures.room);
+        spare = omega (arith, c.self.invariant.6.spare, ap vec_capacity c.remove_top.ensures.spare);
       },
     )
 

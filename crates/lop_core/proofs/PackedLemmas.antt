@@ -13,7 +13,7 @@ use Rattle.lop_model.proofs.BoundLemmas.{IsLinearExtension-none}
 use Rattle.lop_cuts.specs.Kind.{IsCut}
 use Rattle.lop_cuts.specs.Lagrangian.{Term, reduced_entry, lagrangian_value}
 use Rattle.lop_cuts.proofs.LagrangianLemmas.{AreValid-AreCuts, weight-le-lagrangian_value}
-use Rattle.lop_leaf.specs.Packing.{cycle_margin, dicycle, pack_cycle, pack_triple, pack_pair, pack_object, packed_terms, packing_bound}
+use Rattle.lop_leaf.specs.Packing.{cycle_residual, dicycle, pack_cycle, pack_triple, pack_pair, pack_object, packed_terms, packing_bound}
 use Rattle.lop_leaf.proofs.PackingValue.{in_turn-keeps, packing_bound-shown}
 
 -- each term's cut is one
@@ -34,7 +34,7 @@ cond_keeps P false q x y h k = k
 
 cycle_cuts : (C : Matrix) (G : List Pair) (a b c : ℕ) (terms : List Term) → a ≢ b → b ≢ c → a ≢ c → AreCuts terms → AreCuts (pack_cycle C G a b c terms)
 cycle_cuts C G a b c terms ab bc ac is =
-    let m = cycle_margin G (reduced_entry C 1 terms) a b c in
+    let m = cycle_residual G (reduced_entry C 1 terms) a b c in
     cond_keeps AreCuts (ltb 0 m) (ltb (length terms) 4096) (terms ++ dicycle a b c m ∷ []) terms
     (All-push (λ (t : Term). IsCut t.cut) terms (dicycle a b c m) is (record { size = refl; distinct = three_distinct a b c ab bc ac })) is
 

@@ -24,7 +24,8 @@ use Rattle.lop_certtext.specs.Line.{CertLine, most_cuts, is_count, are_counts, i
 use Rattle.lop_model.specs.Closing.{AreClosures}
 use Rattle.lop_certtext.specs.CutLine.{numbers_of_objects, cycle_numbers, cut_line, IsShapedCycle, IsShapedCut, objects_of, cut_of}
 use Rattle.lop_certtext.specs.LeafLine.{LeafTerms, leaf_line}
-use Rattle.lop_certtext.specs.Tree.{reversed, Tree, leaf, split, split_line, tree_lines, IsLeaf, IsTree}
+use Rattle.lop_certtext.specs.Tree.{Tree, leaf, split, split_line, tree_lines, IsLeaf, IsTree}
+use Rattle.lop_model.specs.Reversed.{reversed}
 use Rattle.lop_certtext.specs.Certificate.{Certificate, certificate_lines, certificate_text, text_of, IsTreeCertificate}
 use Rattle.lop_certtext.specs.Answer.{TextLine, ended_line, long_line, long_file, limited, lines_from, text_lines, CheckAnswer, accepted, rejected, with_line, spelled, expect, is_version, is_objects, is_order_line, is_value, is_bound, is_cuts, is_end, only_number, are_objects, is_order, objects_step, order_step, value_step, bound_step, cuts_step, cuts_left_step, is_cut_word, with_cut, cut_step, tree_step, node_step, split_step, leaf_step, leaf_value, leaf_limit, tail_step, IsCheckAnswer}
 use Rattle.lop_certtext.proofs.Lines.{All-from_free, lf_free-line_text, length-line_text, line_reading-line_text}

@@ -23,7 +23,8 @@ use Rattle.lop_model.proofs.Closings.{AreClosures-closed}
 use Rattle.lop_cuts.proofs.CertifiedPaths.{CertifiesUnder-one}
 use Rattle.lop_certtext.specs.CutLine.{numbers_of_objects, objects_of, cut_line, cut_of, IsShapedCut}
 use Rattle.lop_certtext.specs.LeafLine.{LeafTerms, leaf_line, leaf_of, terms_in}
-use Rattle.lop_certtext.specs.Tree.{reversed, Tree, leaf, split, split_line, tree_lines, IsTree}
+use Rattle.lop_certtext.specs.Tree.{Tree, leaf, split, split_line, tree_lines, IsTree}
+use Rattle.lop_model.specs.Reversed.{reversed}
 use Rattle.lop_certtext.specs.Certificate.{Certificate, certificate_lines, text_of, IsTreeCertificate, IsCertificateText}
 use Rattle.lop_certtext.specs.Answer.{TextLine, ended_line, unended_line, long_line, long_file, limited, lines_from, text_lines, CheckAnswer, accepted, rejected, with_line, spelled, expect, is_version, is_objects, is_order_line, is_value, is_bound, is_cuts, is_end, only_number, are_objects, is_order, objects_step, order_step, value_step, bound_step, cuts_step, cuts_left_step, is_cut_word, with_cut, cut_step, tree_step, node_step, split_step, leaf_step, leaf_value, leaf_limit, split_of, end_step, tail_step, IsCheckAnswer}
 use Rattle.lop_certtext.proofs.Lines.{line_text-line_reading}

@@ -18,7 +18,8 @@ use Rattle.lop_model.proofs.Closings.{IsClosure-closed}
 use Rattle.lop_cuts.specs.Certifying.{CertifiesUnder}
 use Rattle.lop_cuts.proofs.LagrangianLemmas.{AreValid-AreCuts, weight-le-certified}
 use Rattle.lop_certtext.specs.LeafLine.{CutTerm, LeafTerms, are_rising, cut_at, terms_in}
-use Rattle.lop_certtext.specs.Tree.{reversed, Tree, leaf, split, IsLeaf, IsTree}
+use Rattle.lop_certtext.specs.Tree.{Tree, leaf, split, IsLeaf, IsTree}
+use Rattle.lop_model.specs.Reversed.{reversed}
 use Rattle.lop_certtext.specs.Certificate.{Certificate, IsTreeCertificate}
 use Rattle.lop_certtext.proofs.PathLemmas.{extends_more}
 

@@ -12,7 +12,7 @@ use Rattle.lop_certtext.specs.declared.word.CertWord.TheVariants.{Version, Objec
 use Rattle.lop_certtext.specs.declared.reason.Reason.{Reason}
 use Rattle.lop_certtext.specs.declared.reason.Reason.TheVariants as reason
 use Rattle.lop_certtext.specs.Line.{CertLine, line_reading}
-use Rattle.lop_certtext.specs.Tree.{reversed}
+use Rattle.lop_model.specs.Reversed.{reversed}
 use Rattle.lop_certtext.specs.CutLine.{objects_of, name_objects, cut_of}
 use Rattle.lop_certtext.specs.LeafLine.{LeafTerms, leaf_of, terms_in}
 

@@ -2,6 +2,7 @@
 use Rattle.std.specs.Prelude.{◌≡◌, ℕ, ◌+◌, ◌^◌, ◌<◌, ◌≤◌, true, List, [], ◌∷◌, ◌++◌, length, All, ℤ}
 use Rattle.lop_model.specs.declared.pair.Pair.{Pair}
 use Rattle.lop_model.specs.Matrix.{Matrix}
+use Rattle.lop_model.specs.Reversed.{reversed}
 use Rattle.lop_model.specs.Fixings.{IsUndecided}
 use Rattle.lop_cuts.specs.declared.kind.CutKind.{CutKind}
 use Rattle.lop_cuts.specs.Certifying.{CertifiesUnder}
@@ -9,10 +10,6 @@ use Rattle.lop_certtext.specs.declared.word.CertWord.TheVariants.{SplitLine}
 use Rattle.lop_certtext.specs.Line.{CertLine}
 use Rattle.lop_certtext.specs.CutLine.{numbers_of_objects}
 use Rattle.lop_certtext.specs.LeafLine.{LeafTerms, leaf_line, are_rising, terms_in}
-
--- the pair the other way round
-abbrev pub reversed : Pair → Pair
-reversed p = record { before = p.after; after = p.before }
 
 -- each inner node has a pair and two children: the orders that keep the pair, and those that keep its reverse
 pub data Tree : Type 0 where

@@ -19,7 +19,8 @@ use Rattle.lop_cuts.specs.Certifying.{CertifiesUnder}
 use Rattle.lop_leaf.proofs.QuotientLemmas.{scaled-le}
 use Rattle.lop_core.specs.declared.node.SearchNode.{SearchNode}
 use Rattle.lop_core.specs.declared.records.NumberedTerm.{NumberedTerm}
-use Rattle.lop_core.specs.Tree.{reversed, node_at, path_of, IsOpen, AreLinked}
+use Rattle.lop_core.specs.Tree.{node_at, path_of, IsOpen, AreLinked}
+use Rattle.lop_model.specs.Reversed.{reversed}
 use Rattle.lop_core.specs.Records.{NodeRecord, IsNodeRecord, IsRecordBook, record_at, cut_at, terms_of}
 use Rattle.lop_core.specs.Machine.{SearchState, state_bound}
 use Rattle.lop_core.specs.Core.{CoreFields, HasHistory, AreRecorded}

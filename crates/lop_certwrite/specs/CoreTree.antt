@@ -3,7 +3,8 @@ use Rattle.std.specs.Prelude.{◌≡◌, ℕ, ◌+◌, ◌<◌, List, length, ma
 use Rattle.lop_model.specs.declared.pair.Pair.{Pair}
 use Rattle.lop_core.specs.declared.node.SearchNode.{SearchNode}
 use Rattle.lop_core.specs.declared.node.Standing.TheVariants.{Split}
-use Rattle.lop_core.specs.Tree.{reversed, IsOpen}
+use Rattle.lop_core.specs.Tree.{IsOpen}
+use Rattle.lop_model.specs.Reversed.{reversed}
 use Rattle.lop_core.specs.Records.{NodeRecord, record_at}
 use Rattle.lop_core.specs.Core.{CoreFields}
 use Rattle.lop_core.specs.Machine.{state_bound}

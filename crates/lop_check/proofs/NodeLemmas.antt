@@ -10,7 +10,7 @@ use Rattle.lop_cuts.specs.declared.kind.CutKind.{CutKind}
 use Rattle.lop_cuts.specs.Kind.{IsCut}
 use Rattle.lop_certtext.specs.declared.word.CertWord.TheVariants.{SplitLine}
 use Rattle.lop_cuts.proofs.CertifiedPaths.{CertifiesUnder-one}
-use Rattle.lop_certtext.specs.Tree.{reversed}
+use Rattle.lop_model.specs.Reversed.{reversed}
 use Rattle.lop_certtext.specs.LeafLine.{LeafTerms, are_rising, terms_of, terms_in, is_leaf_row, leaf_of}
 use Rattle.lop_certtext.specs.Answer.{split_of, split_step, leaf_value, leaf_limit}
 use Rattle.lop_certtext.proofs.PathLemmas.{extends_more}

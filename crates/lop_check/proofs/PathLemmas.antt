@@ -8,7 +8,7 @@ use Rattle.lop_model.proofs.ClosureLemmas.{IsClosure-none}
 use Rattle.lop_model.specs.Closing.{closed}
 use Rattle.lop_model.proofs.Closings.{IsClosure-closed}
 use Rattle.lop_cuts.proofs.ClosureUnique.{IsClosure-unique}
-use Rattle.lop_certtext.specs.Tree.{reversed}
+use Rattle.lop_model.specs.Reversed.{reversed}
 use Rattle.lop_check.specs.declared.path.Step.{Step}
 use Rattle.lop_check.specs.Trail.{FixedPath}
 use Rattle.lop_check.specs.Standing.{Standing, standing, stepped, pending, IsWalk}

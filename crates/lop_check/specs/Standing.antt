@@ -4,7 +4,7 @@ use Rattle.lop_model.specs.declared.pair.Pair.{Pair}
 use Rattle.lop_model.specs.Matrix.{Matrix, weight}
 use Rattle.lop_model.specs.Fixings.{IsLinearExtension, IsClosure, IsBranchingPath}
 use Rattle.lop_check.specs.declared.path.Step.{Step}
-use Rattle.lop_certtext.specs.Tree.{reversed}
+use Rattle.lop_model.specs.Reversed.{reversed}
 use Rattle.lop_check.specs.Trail.{FixedPath}
 
 -- the path to the node whose line is due, and the paths whose subtrees come after its own

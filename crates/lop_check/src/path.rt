@@ -1,7 +1,7 @@
 // The walk down the tree and back, with the subtrees that are still to come.
 ghost use Rattle.std.specs.Prelude.{◌≡◌, ◌<◌, [], ◌∷◌, ◌++◌, List, OnOk, IsTrue, true, MatchBool};
 ghost use Rattle.lop_model.specs.Fixings.{IsUndecided};
-ghost use Rattle.lop_certtext.specs.Tree.{reversed};
+ghost use Rattle.lop_model.specs.Reversed.{reversed};
 ghost use Rattle.lop_certtext.specs.Answer.{may_split};
 ghost use Rattle.lop_check.specs.Standing.{standing, stepped, pending, pending_if, IsWalk};
 

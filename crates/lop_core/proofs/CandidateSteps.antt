@@ -12,7 +12,8 @@ use Rattle.lop_core.specs.declared.node.SearchNode.{SearchNode}
 use Rattle.lop_core.specs.declared.node.Standing.{Standing}
 use Rattle.lop_core.specs.declared.node.Standing.TheVariants.{Idle, Out, Split}
 use Rattle.lop_core.specs.declared.candidates.Candidate.{Candidate}
-use Rattle.lop_core.specs.Tree.{reversed, child, node_at}
+use Rattle.lop_core.specs.Tree.{child, node_at}
+use Rattle.lop_model.specs.Reversed.{reversed}
 use Rattle.lop_core.specs.Machine.{IsReady, changed, closed, divided, settled_nodes}
 use Rattle.lop_core.specs.Candidates.{AreCandidates, IsTop, candidate, candidate_order}
 use Rattle.lop_core.proofs.Lists.{slice_get-set_cases, slice_get-set_other, slice_get-append_left, slice_get_at, slice_get_two_cases, slice_get_two_second}

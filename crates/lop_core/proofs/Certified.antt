@@ -19,7 +19,8 @@ use Rattle.lop_leaf.proofs.PathLemmas.{CertifiesUnder-more, has_pair-closures}
 use Rattle.lop_core.specs.declared.node.SearchNode.{SearchNode}
 use Rattle.lop_core.specs.declared.node.Standing.{Standing}
 use Rattle.lop_core.specs.declared.node.Standing.TheVariants.{Idle, Split}
-use Rattle.lop_core.specs.Tree.{no_pair, reversed, child, node_at, path_of, paths}
+use Rattle.lop_core.specs.Tree.{no_pair, child, node_at, path_of, paths}
+use Rattle.lop_model.specs.Reversed.{reversed}
 use Rattle.lop_core.specs.Machine.{changed, settled_nodes, divided, closed}
 use Rattle.lop_core.specs.Core.{AreCertified, root_book}
 use Rattle.lop_core.proofs.ExtensionLemmas.{reversed_undecided, IsBranchingPath-push}

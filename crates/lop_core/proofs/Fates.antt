@@ -16,7 +16,8 @@ use Rattle.lop_core.specs.declared.journal.Entry.{Entry}
 use Rattle.lop_core.specs.declared.journal.Entry.TheVariants.{Take, Report}
 use Rattle.lop_core.specs.declared.node.Standing.{Standing}
 use Rattle.lop_core.specs.declared.node.Standing.TheVariants.{Idle, Out, Split}
-use Rattle.lop_core.specs.Tree.{reversed, child, node_at, is_out, path_of}
+use Rattle.lop_core.specs.Tree.{child, node_at, is_out, path_of}
+use Rattle.lop_model.specs.Reversed.{reversed}
 use Rattle.lop_core.specs.Machine.{Problem, SearchState, root_state, changed, after, settled, closed, divided, IsOutTo}
 use Rattle.lop_core.specs.Journal.{replay, room_count, entries_of, is_of, takes, reports, HasTake, HasReport, MayTake, MayReport, MayFollow, IsLawfulJournal}
 use Rattle.lop_core.proofs.Replay.{replay_push}

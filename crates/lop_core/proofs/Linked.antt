@@ -10,7 +10,8 @@ use Rattle.lop_core.specs.declared.node.Standing.{Standing}
 use Rattle.lop_core.specs.declared.node.Standing.TheVariants.{Idle, Out, Split}
 use Rattle.lop_core.specs.declared.journal.Entry.{Entry}
 use Rattle.lop_core.specs.declared.journal.Entry.TheVariants.{Take, Report}
-use Rattle.lop_core.specs.Tree.{no_pair, reversed, child, node_at, path_of, paths, with_path_of, AreLinked}
+use Rattle.lop_core.specs.Tree.{no_pair, child, node_at, path_of, paths, with_path_of, AreLinked}
+use Rattle.lop_model.specs.Reversed.{reversed}
 use Rattle.lop_core.specs.Machine.{Problem, SearchState, after, settled, divided, closed, changed}
 use Rattle.lop_core.specs.Journal.{replay, MayFollow, IsLawfulJournal}
 use Rattle.lop_core.specs.Core.{CoreFields, HasHistory}

@@ -19,9 +19,11 @@ use Rattle.lop_core.specs.declared.node.Standing.{Standing}
 use Rattle.lop_core.specs.declared.node.Standing.TheVariants.{Idle, Out, Split}
 use Rattle.lop_core.specs.declared.journal.Entry.{Entry}
 use Rattle.lop_core.specs.declared.journal.Entry.TheVariants.{Take, Report}
-use Rattle.lop_core.specs.Tree.{no_pair, reversed, child, node_at, path_of, is_split}
+use Rattle.lop_core.specs.Tree.{no_pair, child, node_at, path_of, is_split}
+use Rattle.lop_model.specs.Reversed.{reversed}
 use Rattle.lop_core.specs.Machine.{Problem, SearchState, after, changed, settled, closed, divided, raised_by, state_bound}
-use Rattle.lop_core.specs.Journal.{IsAttained, replay, room_count, sure_rooms, has_room, MayTake, MayReport, MayFollow, IsLawfulJournal}
+use Rattle.lop_core.specs.Journal.{replay, room_count, sure_rooms, has_room, MayTake, MayReport, MayFollow, IsLawfulJournal}
+use Rattle.lop_model.specs.Attained.{IsAttained}
 use Rattle.lop_core.specs.Core.{CoreFields, HasHistory}
 use Rattle.lop_core.proofs.Lists.{slice_get-set_cases, slice_get_two_cases, by_following}
 use Rattle.lop_core.proofs.Replay.{replay_push, best_attained}

@@ -18,7 +18,8 @@ use Rattle.lop_core.specs.declared.journal.Entry.TheVariants.{Take, Report}
 use Rattle.lop_core.specs.declared.node.Standing.TheVariants.{Idle, Out}
 use Rattle.lop_core.specs.Tree.{no_pair, child, node_at, paths, path_of, is_split, IsOpen, IsCoveredOnce, split_count}
 use Rattle.lop_core.specs.Machine.{Problem, SearchState, root_state, after, settled, closed, divided, raised_by, state_bound}
-use Rattle.lop_core.specs.Journal.{IsPathBound, IsAttained, replay, room_count, MayTake, MayReport, MayFollow, IsLawfulJournal}
+use Rattle.lop_core.specs.Journal.{IsPathBound, replay, room_count, MayTake, MayReport, MayFollow, IsLawfulJournal}
+use Rattle.lop_model.specs.Attained.{IsAttained}
 use Rattle.lop_core.proofs.Sound.{IsSound, sound_changed, sound_divided}
 
 abbrev pub SoundState : Problem → SearchState → Type 0

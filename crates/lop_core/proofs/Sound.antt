@@ -13,9 +13,11 @@ use Rattle.lop_core.proofs.ExtensionLemmas.{one_way, not_both, extends_more, ext
 use Rattle.lop_core.specs.declared.node.SearchNode.{SearchNode}
 use Rattle.lop_core.specs.declared.node.Standing.{Standing}
 use Rattle.lop_core.specs.declared.node.Standing.TheVariants.{Split}
-use Rattle.lop_core.specs.Tree.{no_pair, reversed, child, node_at, path_of, is_split, IsOpen, IsCoveredOnce, split_count}
+use Rattle.lop_core.specs.Tree.{no_pair, child, node_at, path_of, is_split, IsOpen, IsCoveredOnce, split_count}
+use Rattle.lop_model.specs.Reversed.{reversed}
 use Rattle.lop_core.specs.Machine.{Problem, changed}
-use Rattle.lop_core.specs.Journal.{IsPathBound, IsAttained}
+use Rattle.lop_core.specs.Journal.{IsPathBound}
+use Rattle.lop_model.specs.Attained.{IsAttained}
 use Rattle.lop_core.proofs.TreeLemmas.{paths-changed, path_of_two_old, path_of_two_first, path_of_two_second}
 
 pub record IsSound (problem : Problem) (nodes : List SearchNode) (best : ℤ) : Type 0 where

@@ -20,7 +20,8 @@ use Rattle.lop_core.specs.declared.node.Standing.{Standing}
 use Rattle.lop_core.specs.declared.node.Standing.TheVariants.{Idle, Out, Split}
 use Rattle.lop_core.specs.declared.journal.Entry.{Entry}
 use Rattle.lop_core.specs.declared.journal.Entry.TheVariants.{Take, Report}
-use Rattle.lop_core.specs.Tree.{reversed, child, node_at, path_of, is_out, out_count}
+use Rattle.lop_core.specs.Tree.{child, node_at, path_of, is_out, out_count}
+use Rattle.lop_model.specs.Reversed.{reversed}
 use Rattle.lop_core.specs.Machine.{Problem, SearchState, changed, closed, divided, settled, after, IsOutTo, state_bound}
 use Rattle.lop_core.specs.Journal.{replay, room_count, worker_of, entries_of, takes, reports, HasTake, HasReport, MayFollow, IsLawfulJournal}
 use Rattle.lop_core.specs.Core.{CoreFields, HasHistory}

@@ -3,6 +3,7 @@ use Rattle.std.specs.Prelude.{◌≡◌, ℕ, ℤ, ◌+◌, ◌*◌, ◌/◌, mi
 use Rattle.lop_model.specs.declared.pair.Pair.{Pair}
 use Rattle.lop_model.specs.Order.{IsOrder}
 use Rattle.lop_model.specs.Matrix.{Matrix, weight}
+use Rattle.lop_model.specs.Attained.{IsAttained}
 use Rattle.lop_model.specs.Fixings.{IsClosure, IsUndecided, IsLinearExtension, AreAllDecided}
 use Rattle.lop_leaf.specs.Packing.{packing_bound}
 use Rattle.lop_core.specs.declared.journal.Entry.{Entry}
@@ -17,12 +18,6 @@ IsPathBound C path b = (s : List ℕ) → IsOrder C.size s → IsLinearExtension
 -- b is at most the packing bound under the path
 abbrev pub IsWithinPackingBound : Matrix → List Pair → ℤ → Type 0
 IsWithinPackingBound C path b = (G : List Pair) → IsClosure path G → b ≤ℤ packing_bound C G
-
--- some order has that weight
-pub record IsAttained (C : Matrix) (value : ℤ) : Type 0 where
-  pub order : List ℕ
-  pub is_order : IsOrder C.size order
-  pub weighs : weight C order ≡ value
 
 -- the state after the entries, from the root
 abbrev pub replay : Problem → List Entry → SearchState

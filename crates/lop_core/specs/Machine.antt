@@ -9,7 +9,8 @@ use Rattle.lop_core.specs.declared.node.Standing.{Standing}
 use Rattle.lop_core.specs.declared.node.Standing.TheVariants.{Idle, Out, Split}
 use Rattle.lop_core.specs.declared.journal.Entry.{Entry}
 use Rattle.lop_core.specs.declared.journal.Entry.TheVariants.{Take, Report}
-use Rattle.lop_core.specs.Tree.{no_pair, reversed, child, node_at, is_split, is_idle}
+use Rattle.lop_core.specs.Tree.{no_pair, child, node_at, is_split, is_idle}
+use Rattle.lop_model.specs.Reversed.{reversed}
 
 -- what a search is about, and never changes: the weights, the weight of the order that it starts with, and how many nodes it may evaluate
 pub record Problem : Type 0 where

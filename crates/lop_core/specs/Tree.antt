@@ -10,10 +10,6 @@ use Rattle.lop_core.specs.declared.node.Standing.TheVariants.{Idle, Out, Split}
 abbrev pub no_pair : Pair
 no_pair = record { before = 0; after = 0 }
 
--- the pair the other way round
-abbrev pub reversed : Pair → Pair
-reversed pair = record { before = pair.after; after = pair.before }
-
 -- a new node: idle
 abbrev pub child : ℕ → Pair → ℤ → SearchNode
 child parent pair bound = record { parent = parent; pair = pair; bound = bound; standing = Idle }

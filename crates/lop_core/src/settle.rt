@@ -1,7 +1,8 @@
 // What a report does to the nodes and to the kept order.
 ghost use Rattle.std.specs.Prelude.{◌≡◌, ◌+◌, ◌<◌, ◌≤◌, ◌^◌, IsTrue, ◌↔◌, length, IfSome, IfNone, vec_len, vec_capacity, int_lt, if◌then◌else◌};
 ghost use Rattle.std.specs.Int.{int_max};
-ghost use Rattle.lop_core.specs.Tree.{child as child_of, reversed};
+ghost use Rattle.lop_core.specs.Tree.{child as child_of};
+ghost use Rattle.lop_model.specs.Reversed.{reversed};
 ghost use Rattle.lop_core.specs.Machine.{changed, settled_nodes};
 
 use crate::node::{SearchNode, Standing};

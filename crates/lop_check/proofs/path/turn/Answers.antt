@@ -1,6 +1,6 @@
 use Rattle.std.proofs.Common.{◌≡◌, ◌∷◌, [], ◌++◌, ◌-◌, sym, ap, ◌∙◌, subst, arith, false, List, length, set}
 use Rattle.lop_model.specs.declared.pair.Pair.{Pair}
-use Rattle.lop_certtext.specs.Tree.{reversed}
+use Rattle.lop_model.specs.Reversed.{reversed}
 use Rattle.lop_check.specs.Standing.{standing, pending, IsWalk}
 use Rattle.lop_check.specs.declared.path.Step.{Step}
 use Rattle.lop_check.proofs.PathLemmas.{some_path, IsWalk-front, IsWalk-push, reverse_undecided, pending-turned, turned, set_turned, last_is}

@@ -1,0 +1,6 @@
+use Rattle.lop_simplex.proofs.RowLemmas.{arcs_below}
+use Rattle.lop_simplex.proofs.pass.slope.Goals as goal
+
+pub slope_by-requires-clause-below : goal.slope_by-requires-clause-below
+slope_by-requires-clause-below c =
+    arcs_below c.args.n c.args.rows.now c.loop-r.r c.index-rows-r.result _ _ c.requires.fit c.loop-r-test.true c.index-rows-r.is c.as_slice.ensures.value c.arcs.ensures.below

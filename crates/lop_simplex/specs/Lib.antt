@@ -1,0 +1,4 @@
+pub mod Shift
+pub mod Lp
+pub mod Answers
+pub mod Run

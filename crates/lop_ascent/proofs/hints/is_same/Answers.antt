@@ -1,0 +1,8 @@
+use Rattle.std.proofs.Common.{◌≡◌, true, false}
+use Rattle.lop_ascent.proofs.hints.is_same.Goals as goal
+
+pub returns-clause-equal : goal.returns-clause-equal
+returns-clause-equal c = λ t. c.eq.ensures.same.0 t
+
+pub returns-clause-unequal : goal.returns-clause-unequal
+returns-clause-unequal c = λ f e. let t : c.eq.result ≡ true = c.eq.ensures.same.1 e in cc

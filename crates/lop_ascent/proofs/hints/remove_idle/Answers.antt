@@ -1,0 +1,15 @@
+use Rattle.std.proofs.Common.{rules, ◌≡◌, ◌≤◌, ◌<◌, vec_len, length, arith, ◌∙◌, sym}
+use Rattle.lop_ascent.proofs.FewerLemmas.{fewer_itself, fewer_after}
+use Rattle.lop_ascent.proofs.hints.remove_idle.Goals as goal
+
+pub loop-at-init : goal.loop-at-init
+loop-at-init c = record { within = search rules; same = search rules; capacity = search rules; cut_capacity = search rules; fewer = fewer_itself c.args.cuts.now.items }
+
+pub loop-at-preserved-then-is_idle : goal.loop-at-preserved-then-is_idle
+loop-at-preserved-then-is_idle c = record {
+  within = omega arith;
+  same = omega arith;
+  capacity = search rules;
+  cut_capacity = search rules;
+  fewer = fewer_after c.args.cuts.now.items c.loop-at.cuts.items _ _ _ c.loop-at.invariant.fewer (omega arith) c.swap_remove-cut.ensures.items;
+}

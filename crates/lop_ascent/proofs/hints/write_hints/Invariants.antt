@@ -1,0 +1,9 @@
+use Rattle.std.proofs.Common.{◌≡◌, length}
+use Rattle.lop_ascent.specs.Duals.{AreDuals}
+use Rattle.lop_ascent.proofs.hints.write_hints.Given as goal
+
+abbrev pub invariant-loop-r : goal.invariant-loop-r
+invariant-loop-r l = record {
+  room : length l.hints.items ≡ 4096;
+  within : AreDuals l.hints.items;
+}

@@ -1,0 +1,5 @@
+pub mod AtFixings
+pub mod Duals
+pub mod Fewer
+pub mod Rows
+pub mod Room

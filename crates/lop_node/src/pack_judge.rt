@@ -51,7 +51,7 @@ impl PackJudge {
 }
 
 /// Fixes the pairs of a branching path in place of what was fixed.
-fn fix_path(fixings: &mut Fixings, path: &[Pair])
+pub(crate) fn fix_path(fixings: &mut Fixings, path: &[Pair])
     requires { IsBranchingPath fixings.old.size path.now }
     ensures size { fixings.new.size ≡ fixings.old.size }
     ensures closure { IsClosure path.now fixings.new.pairs }

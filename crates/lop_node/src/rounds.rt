@@ -1,0 +1,350 @@
+// The rounds of a judge that cuts: solving, an order by the point, and cuts that the point violates.
+ghost use Rattle.std.specs.Prelude.{◌≡◌, ◌<◌, ◌≤◌, length, IfOk};
+ghost use Rattle.lop_leaf.specs.Record.{FitTerms};
+
+use crate::by_point::order_by_point;
+use crate::choice::{Choice, MOST_TAKEN};
+use lop_ascent::{AscentRoom, RowReply};
+use lop_climb::{ClimbRoom, climb};
+use lop_cuts::{CutList, Point};
+use lop_fix::Fixings;
+use lop_leaf::{LeafRecord, round_hints};
+use lop_model::{Order, Weights};
+use lop_sep3::violated_dicycles;
+use lop_value::value;
+use std::alloc::{AllocError, Global};
+use std::marker::Model;
+
+/// The most rounds of a node.
+const MOST_ROUNDS: u32 = 10;
+
+/// The steps of a run after a round that took as many cuts as one may.
+const SHORT_RUN: u32 = 24;
+
+/// The steps of a run after one that took fewer.
+const LONG_RUN: u32 = 160;
+
+/// How the rounds of a node go.
+#[derive(Clone, Copy)]
+struct Pace {
+    /// The steps of the next run.
+    steps: u32,
+    /// By how much a long run is longer, since the last rounds brought no new row.
+    boost: u32,
+    /// The greatest weight that is known.
+    best: i128,
+    /// The least bound that the record shows.
+    shown: i64,
+    /// The bound after the last run that had no new row.
+    idle: i64,
+}
+
+/// What the rounds work in, and what they leave: a record of rounded hints, and the best order that they met. A
+/// contract sees the number of objects, the record and the order.
+#[derive(Drop)]
+pub struct Rounds {
+    size: u16,
+    ascent: AscentRoom,
+    point: Point,
+    found: CutList,
+    choice: Choice,
+    sums: Vec<u64>,
+    next: Order,
+    climb: ClimbRoom,
+    rounded: LeafRecord,
+    best: Order,
+}
+
+impl Model for Rounds {
+    ghost use Rattle.lop_node.specs.Rounds.{RoundsView, IsRounds};
+    ghost use Rattle.std.specs.Vec.{vec_len};
+    ghost use Rattle.std.specs.Prelude.{length};
+
+    ghost Value = { RoundsView };
+
+    ghost view = { λ r. record { size = r.size; shown = r.rounded; order = r.best } };
+
+    ghost invariant = { λ r. IsRounds r.size r.ascent.size r.point.size r.found.room r.choice (vec_len r.sums) (length r.next) (length r.climb) r.rounded.terms (length r.best) };
+}
+
+/// How many violated dicycles a round looks at.
+fn room_of(n: u16) -> usize
+    ensures { result ≤ 65536 }
+{
+    if n < 100 { 16_384 } else { 65_536 }
+}
+
+impl Rounds {
+    /// Takes the rooms for n objects.
+    pub fn new(alloc: Global, n: u16) -> Result<Self, AllocError>
+        requires positive { 1 ≤ n }
+        requires within_limit { n ≤ 512 }
+        ensures { IfOk result (λ r. r.size ≡ n) }
+    {
+        let room = room_of(n);
+        Ok(Rounds {
+            size: n,
+            ascent: AscentRoom::new(alloc, n)?,
+            point: Point::new(alloc, n)?,
+            found: CutList::new(alloc, room)?,
+            choice: Choice::new(alloc, room)?,
+            sums: vec![in alloc; 0; n as usize]?,
+            next: Order::first(alloc, n)?,
+            climb: ClimbRoom::new(alloc, n)?,
+            rounded: LeafRecord::new(alloc)?,
+            best: Order::first(alloc, n)?,
+        })
+    }
+
+    /// The record.
+    pub fn rounded(&self) -> &LeafRecord
+        ensures value { result.now ≡ self.now.shown }
+        ensures fit { FitTerms self.now.size result.now.terms }
+    {
+        &self.rounded
+    }
+
+    /// The best order.
+    pub fn order(&self) -> &Order
+        ensures value { result.now ≡ self.now.order }
+        ensures same_n { length result.now ≡ self.now.size }
+    {
+        &self.best
+    }
+
+    /// The point of the last run.
+    pub fn point(&self) -> &Point
+        ensures { result.now.size ≡ self.now.size }
+    {
+        &self.point
+    }
+
+    /// By how many bits the ascent shifts margins to have at most 24.
+    pub fn shift(&self) -> u32
+        ensures { result ≤ 36 }
+    {
+        self.ascent.shift()
+    }
+
+    /// Leaves another record.
+    pub fn show(&mut self, shown: &LeafRecord)
+        requires { FitTerms self.old.size shown.now.terms }
+        ensures size { self.new.size ≡ self.old.size }
+        ensures shown { self.new.shown ≡ shown.now }
+        ensures order { self.new.order ≡ self.old.order }
+    {
+        self.rounded.copy_from(shown);
+    }
+
+    /// Solving in rounds, from the rows of a record: at most 10, each with at most 128 new cuts. They end where the
+    /// bound is at most the best weight known, and where no violated dicycle is left and a longer run gains little.
+    pub fn run(
+        &mut self,
+        weights: &Weights,
+        fixings: &Fixings,
+        start: &LeafRecord,
+        order: &Order,
+        best: i128,
+    )
+        requires weights { self.old.size ≡ weights.now.size }
+        requires fixings { fixings.now.size ≡ weights.now.size }
+        requires start { FitTerms self.old.size start.now.terms }
+        requires order { length order.now ≡ self.old.size }
+        ensures { self.new.size ≡ self.old.size }
+    {
+        self.begin(weights, fixings, start, order);
+        let mut pace = Pace {
+            steps: SHORT_RUN,
+            boost: 1,
+            best: best.max(value(weights, &self.best)),
+            shown: i64::MAX,
+            idle: i64::MAX,
+        };
+        for _round in 0..MOST_ROUNDS {
+            match self.round(weights, fixings, pace) {
+                None => return,
+                Some(next) => pace = next,
+            }
+        }
+    }
+
+    /// The rows of the record, with its multipliers, and the order to start with.
+    fn begin(&mut self, weights: &Weights, fixings: &Fixings, start: &LeafRecord, order: &Order)
+        requires weights { self.old.size ≡ weights.now.size }
+        requires fixings { fixings.now.size ≡ weights.now.size }
+        requires start { FitTerms self.old.size start.now.terms }
+        requires order { length order.now ≡ self.old.size }
+        ensures { self.new.size ≡ self.old.size }
+    {
+        self.forget();
+        self.start_order(weights, order);
+        self.ascent.load(weights, fixings);
+        add_rows(&mut self.ascent, start);
+    }
+
+    /// Leaves a record with no term.
+    fn forget(&mut self)
+        ensures { self.new.size ≡ self.old.size }
+    {
+        self.rounded.clear();
+    }
+
+    /// Leaves the order, climbed.
+    fn start_order(&mut self, weights: &Weights, order: &Order)
+        requires weights { self.old.size ≡ weights.now.size }
+        requires order { length order.now ≡ self.old.size }
+        ensures { self.new.size ≡ self.old.size }
+    {
+        self.climb.set_order(order);
+        let _climbed = climb(weights, &mut self.climb);
+        self.best.copy_from(self.climb.order());
+    }
+
+    /// One round. None where it was the last.
+    fn round(&mut self, weights: &Weights, fixings: &Fixings, pace: Pace) -> Option<Pace>
+        requires weights { self.old.size ≡ weights.now.size }
+        requires fixings { fixings.now.size ≡ weights.now.size }
+        ensures { self.new.size ≡ self.old.size }
+    {
+        let bound = self.solve(fixings, pace);
+        if bound <= self.ascent.threshold(pace.best) {
+            return None;
+        }
+        let best = pace.best.max(self.order_by_point(weights));
+        let threshold = self.ascent.threshold(best);
+        if bound <= threshold {
+            return None;
+        }
+        let _dropped = self.ascent.drop_slack_rows();
+        let (taken, added) = self.separate();
+        next_pace(pace, best, bound, threshold, taken, added)
+    }
+
+    /// A run, whose hints are rounded where its bound is less than what the record shows. On at most 64 rows the
+    /// simplex method may stand here as well.
+    fn solve(&mut self, fixings: &Fixings, pace: Pace) -> i64
+        requires fixings { fixings.now.size ≡ self.old.size }
+        ensures { self.new.size ≡ self.old.size }
+    {
+        let threshold = self.ascent.threshold(pace.best);
+        let bound = self.ascent.run(pace.steps, threshold);
+        self.remember(bound, pace.shown);
+        self.ascent.point(fixings, &mut self.point);
+        bound
+    }
+
+    /// Rounds the hints, where their bound is less than what the record shows.
+    fn remember(&mut self, bound: i64, shown: i64)
+        ensures { self.new.size ≡ self.old.size }
+    {
+        if bound < shown {
+            round_rows(&self.ascent, &mut self.rounded);
+        }
+    }
+
+    /// The objects by falling sums of the point, climbed: the order is kept where it is the best. Answers its weight.
+    fn order_by_point(&mut self, weights: &Weights) -> i128
+        requires { self.old.size ≡ weights.now.size }
+        ensures { self.new.size ≡ self.old.size }
+    {
+        order_by_point(&self.point, &mut self.sums, &mut self.next);
+        self.climb.set_order(&self.next);
+        let climbed = climb(weights, &mut self.climb).value;
+        self.keep_best(weights, climbed);
+        climbed
+    }
+
+    /// Keeps the climbed order where its weight is the greatest.
+    fn keep_best(&mut self, weights: &Weights, climbed: i128)
+        requires { self.old.size ≡ weights.now.size }
+        ensures { self.new.size ≡ self.old.size }
+    {
+        if climbed > value(weights, &self.best) {
+            self.best.copy_from(self.climb.order());
+        }
+    }
+
+    /// Looks for violated dicycles and adds some as rows. Answers how many were taken, and how many of them are new.
+    fn separate(&mut self) -> (u32, u32)
+        ensures { self.new.size ≡ self.old.size }
+    {
+        self.found.clear();
+        let limit = self.found.free();
+        let _found = violated_dicycles(&self.point, limit, &mut self.found);
+        let _free = self.found.free();
+        self.choice.take(&self.point, &self.found, &mut self.ascent)
+    }
+}
+
+/// Adds a row for a term.
+fn add_term(ascent: &mut AscentRoom, start: &LeafRecord, index: usize) -> RowReply
+    requires index { index < length start.now.terms }
+    requires fit { FitTerms ascent.old.size start.now.terms }
+    ensures { ascent.new.size ≡ ascent.old.size }
+{
+    let scale = start.scale();
+    let term = start.term(index);
+    ascent.add_row(&term.cut, term.multiplier, scale)
+}
+
+/// Adds a row for each term. O(terms²).
+fn add_rows(ascent: &mut AscentRoom, start: &LeafRecord)
+    requires { FitTerms ascent.old.size start.now.terms }
+    ensures { ascent.new.size ≡ ascent.old.size }
+{
+    for index in 0..start.len() {
+        let _reply = add_term(ascent, start, index);
+    }
+}
+
+/// Rounds the hints of the rows to a record. O(rows).
+fn round_rows(ascent: &AscentRoom, rounded: &mut LeafRecord)
+    ensures { FitTerms ascent.now.size rounded.new.terms }
+{
+    round_hints(
+        ascent.rows(),
+        ascent.duals(),
+        ascent.shift(),
+        ascent.record_scale(),
+        rounded,
+    );
+}
+
+/// How the rounds go on. A round that took all that one may is followed by a short run, another by a long one, longer
+/// where no row was new; None where such a run gained less than an eighth of what is left.
+fn next_pace(
+    pace: Pace,
+    best: i128,
+    bound: i64,
+    threshold: i64,
+    taken: u32,
+    added: u32,
+) -> Option<Pace> {
+    let shown = pace.shown.min(bound);
+    if added > 0 {
+        let steps = if taken as usize >= MOST_TAKEN {
+            SHORT_RUN
+        } else {
+            LONG_RUN
+        };
+        return Some(Pace {
+            steps,
+            boost: 1,
+            best,
+            shown,
+            idle: i64::MAX,
+        });
+    }
+    let gained = pace.idle.saturating_sub(bound);
+    if pace.idle < i64::MAX && gained < bound.saturating_sub(threshold) / 8 {
+        return None;
+    }
+    let boost = pace.boost.min(4) * 2;
+    Some(Pace {
+        steps: LONG_RUN * boost,
+        boost,
+        best,
+        shown,
+        idle: bound,
+    })
+}

@@ -72,7 +72,8 @@ pub record IsRecordBook (book : RecordBook) : Type 0 where
 -- nodes whose records have different numbers have no more terms than that together
 abbrev pub HaveTermsWithin : RecordBook → ℕ → Type 0
 HaveTermsWithin book room =
-    (nodes : List ℕ) → All (λ i. i < length book.records) nodes → AllPairs (λ i j. number_at book.numbers i ≢ number_at book.numbers j) nodes → sum (map (λ i. length (record_at book.records i).terms) nodes) ≤ room
+    (nodes : List ℕ) → All (λ i. i < length book.records) nodes → AllPairs (λ i j. number_at book.numbers i ≢ number_at book.numbers j) nodes
+    → sum (map (λ i. length (record_at book.records i).terms) nodes) ≤ room
 
 -- whether two cuts are the same
 unfoldable pub same_cut : CutKind → CutKind → Bool

@@ -34,7 +34,8 @@ pub record IsCore (core : CoreFields) : Type 0 where
 -- one call of a core: a take or a report of some worker
 pub data IsCall (old new : CoreFields) : Type 0 where
   take_call : (worker : ℕ) (blank ticket : TicketFields) (reply : TakeReply) → IsTake old blank worker reply new ticket → IsCall old new
-  report_call : (worker : ℕ) (found : EvaluatedFields) (reply : ReportReply) → IsScaledTerms found.shown → (IsOutTo old.state worker found.node → IsSoundReport old found) → IsReport old worker found reply new → IsCall old new
+  report_call : (worker : ℕ) (found : EvaluatedFields) (reply : ReportReply) → IsScaledTerms found.shown → (IsOutTo old.state worker found.node → IsSoundReport old found)
+      → IsReport old worker found reply new → IsCall old new
 
 -- so many calls lead from one core to another
 abbrev pub Leads : ℕ → CoreFields → CoreFields → Type 0

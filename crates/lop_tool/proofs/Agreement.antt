@@ -1,85 +1,115 @@
 -- A certificate that was written is accepted by the check that follows.
-use Rattle.std.proofs.Common.{◌≡◌, ◌≢◌, ◌⊎◌, ℕ, ◌≤◌, false, List, [], Option, None, Some, Ok, ℤ, refl, sym, ◌∙◌, ap, subst, inl, inr}
+use Rattle.std.proofs.Common.{◌≡◌, ◌≢◌, ◌⊎◌, ℕ, ◌≤◌, false, Bool, List, [], ◌∷◌, Option, None, Some, IfSome, Ok, ℤ, refl, sym, ◌∙◌, ap, subst, inl, inr}
+use Rattle.std.specs.List.{Any}
 use Rattle.std.specs.Str.{bytes_eq}
 use Rattle.std.proofs.lemmas.Bool.Decides.{not_from_Decides}
 use Rattle.std.proofs.lemmas.Slice.Eq.{bytes_eq-Decides}
-use Rattle.lop_desk.specs.World.{World, NamedFile, file_named, put_file, with_printed}
+use Rattle.lop_desk.specs.World.{World, NamedFile, file_named, put_file}
 use Rattle.lop_desk.specs.Causes.{Rose}
+use Rattle.lop_desk.specs.Desk.{IsMissing}
 use Rattle.lop_desk.proofs.Files.{named_put, named_put_other}
 use Rattle.lop_desk.proofs.Printing.{rose_from}
-use Rattle.lop_core.specs.Core.{CoreFields}
+use Rattle.lop_model.specs.Matrix.{Matrix}
 use Rattle.lop_core.specs.Machine.{state_bound}
-use Rattle.lop_certtext.specs.Answer.{CheckAnswer, accepted, IsCheckAnswer}
-use Rattle.lop_certtext.specs.Certificate.{certificate_text}
-use Rattle.lop_certtext.proofs.AcceptedText.{IsCheckAnswer-certificate_text}
-use Rattle.lop_tool.specs.Input.{input_named, reading_of}
+use Rattle.lop_certtext.specs.Answer.{CheckAnswer, accepted}
+use Rattle.lop_certtext.specs.Certificate.{Certificate, certificate_text, IsTreeCertificate}
+use Rattle.lop_certtext.proofs.AcceptedText.{check_answer-certificate_text}
+use Rattle.lop_report.specs.Lines.{is_optimal}
 use Rattle.lop_words.specs.declared.command.Command.{Command}
-use Rattle.lop_words.specs.declared.command.Command.TheVariants.{Solve, Check, Value, Gen}
+use Rattle.lop_words.specs.declared.command.Command.TheVariants.{Solve, Check}
 use Rattle.lop_words.specs.declared.command.Format.{Format}
 use Rattle.lop_words.specs.Command.{command_of}
 use Rattle.lop_words.proofs.CommandLemmas.{names_apart, limits}
-use Rattle.lop_tool.specs.Reply.{instance_of, solution_text}
-use Rattle.lop_tool.specs.Run.{settled, with_file, LeavesCertificate, Solves, Ended, EndsBy}
-use Rattle.lop_tool.specs.Both.{BothEnded, IsRoundTrip, Agree}
+use Rattle.lop_tool.specs.declared.input.Instance.{Instance}
+use Rattle.lop_tool.specs.declared.status.Status.TheVariants as status
+use Rattle.lop_tool.specs.Status.{number, done_status, IsDoneNumber}
+use Rattle.lop_tool.specs.Told.{files_of, settled, with_file, Leaves}
+use Rattle.lop_tool.specs.Input.{input_named, reading_of}
+use Rattle.lop_tool.specs.Search.{Found, found_of, IsSearchOf}
+use Rattle.lop_tool.specs.Certificate.{IsCertificateFile}
+use Rattle.lop_tool.specs.Solve.{Solves}
+use Rattle.lop_tool.specs.Check.{IsChecked, IsAnswerFor}
+use Rattle.lop_tool.specs.Steps.{reads}
+use Rattle.lop_tool.specs.Ended.{Ended}
+use Rattle.lop_tool.specs.Run.{DoneBy}
+use Rattle.lop_tool.specs.RoundTrip.{BothEnded, IsRoundTrip, round_trip, Agree}
 use Rattle.lop_tool.proofs.CertificateLength.{length-certificate_of}
-use Rattle.lop_tool.proofs.Promises.{solves, completes}
+use Rattle.lop_tool.proofs.CheckLemmas.{checked_once, accepted_at}
+use Rattle.lop_tool.proofs.Stops.{files-settled, not_any}
+use Rattle.lop_tool.proofs.Promises.{solves, checks, ends_well}
 
--- ---- the second run
+-- ---- a check of an accepted certificate
 
-abbrev the_files : Option World → List NamedFile
-the_files None = []
-the_files (Some w) = w.files
+-- its two files are there
+both_there : (format : Format) (file name : List ℕ) (v : World) (input : Instance) (answer : CheckAnswer) → IsChecked format file name v.files input answer → ¬ (Any (IsMissing (Some v)) (reads (Check format file name)))
+both_there format file name v input answer checked = not_any (IsMissing (Some v)) file name
+    (λ missing. let none : input_named format v.files file ≡ None = ap (reading_of format) missing in let some = checked.accepted_file in cc)
+    (λ missing. let some = checked.given.there in cc)
 
-agree_at : (format : Format) (file name : List ℕ) (nodes : ℕ) (w v : World) (new : Option World) (before between now solved checked : ℕ) → name ≢ file → nodes ≤ 1000000 → Solves format file nodes (Some name) w (Some w) (Some v) solved → Ended (Some (Check format file name)) (Some v) new between now checked
-    → before ≤ between → (Rose before now → ⊥) → (checked ≡ solved) ⊎ (checked ≡ 5)
-agree_at format file name nodes w v new before between now solved checked apart few s second later calm =
-    let core = s.solution.core in
-    let c = s.left.certificate in
+same_numbers : (value bound other more : ℤ) → accepted value bound ≡ accepted other more → is_optimal value bound ≡ is_optimal other more
+same_numbers value bound other more is = let first : value ≡ other = cc in let second : bound ≡ more = cc in ap (λ (x : ℤ). is_optimal x bound) first ∙ ap (is_optimal other) second
+
+accepted_ends : (format : Format) (file name : List ℕ) (v : World) (new : Option World) (before now n : ℕ) (input : Instance) (value bound : ℤ) → Ended (Some (Check format file name)) (Some v) new before now n → IsChecked format file name v.files input (accepted value bound) → ¬ (Rose before now)
+    → (n ≡ number (done_status (is_optimal value bound))) ⊎ (n ≡ number status.Memory)
+accepted_ends format file name v new before now n input value bound ended checked calm =
+    elim (ends_well v new before now n (Check format file name) ended (both_there format file name v input (accepted value bound) checked) (accepted_at format file name input value bound v.files checked) calm) [
+      | inl ends ↦
+          let d = checks (Some v) new before now n (Some (Check format file name)) ended format file name refl ends in
+          let same = checked_once format file name v.files d.kept.input input (accepted d.kept.value d.kept.bound) (accepted value bound) d.kept.checked checked in
+          inl (d.number_is ∙ ap (λ (b : Bool). number (done_status b)) (d.kept.optimal_is ∙ same_numbers d.kept.value d.kept.bound value bound same))
+      | inr five ↦ inr five
+    ]
+
+-- ---- the certificate of a search
+
+-- what stands under the name is accepted with the numbers that were found
+left_accepted : (format : Format) (file name : List ℕ) (nodes : ℕ) (w v : World) (optimal : Bool) (text : List ℕ) (left : Option NamedFile) → name ≢ file → nodes ≤ 1000000 → (s : Solves format file nodes (Some name) (Some w.files) optimal text left) → v.files ≡ put_file (record { name = name; bytes = certificate_text s.left_is.certificate }) w.files
+    → IsChecked format file name v.files s.input (accepted s.found.value s.found.bound)
+left_accepted format file name nodes w v optimal text left apart few s files =
+    let c = s.left_is.certificate in
     let made : NamedFile = record { name = name; bytes = certificate_text c } in
-    let files : v.files ≡ put_file made w.files = ap the_files s.left.has in
-    let input : input_named format v.files file ≡ Some (Ok (instance_of s.solution)) = ap (λ (fs : List NamedFile). input_named format fs file) files ∙ ap (reading_of format) (named_put_other made w.files file apart) ∙ s.accepted_file in
-    let there : file_named v.files name ≡ Some made.bytes = ap (λ (fs : List NamedFile). file_named fs name) files ∙ named_put made w.files in
-    let answer : IsCheckAnswer core.problem.weights made.bytes (accepted c.value c.bound) = IsCheckAnswer-certificate_text core.problem.weights s.solved.searched.weights c s.left.holds (length-certificate_of nodes core c few s.solved s.left.of_core s.left.holds) in
-    let ends : EndsBy (accepted c.value c.bound) checked = completes (Some (Check format file name)) (Some v) new between now checked second (instance_of s.solution) made.bytes input there (λ rose. calm (rose_from before between now later rose)) (accepted c.value c.bound) answer in
-    let numbers : accepted c.value c.bound ≡ accepted core.state.best (state_bound core.state) = ap (λ (x : ℤ). accepted x c.bound) s.left.of_core.value_is ∙ ap (accepted core.state.best) s.left.of_core.bound_is in
-    let accepts : EndsBy (accepted core.state.best (state_bound core.state)) checked = subst (λ (a : CheckAnswer). EndsBy a checked) numbers ends in
-    elim accepts [ inl same ↦ inl (same ∙ sym s.status_is) | inr five ↦ inr five ]
+    let holds : IsTreeCertificate s.input.weights c = subst (λ (C : Matrix). IsTreeCertificate C c) s.search.weights_are s.left_is.true_of.holds in
+    let short = length-certificate_of s.input.weights nodes s.found s.core c few s.search s.left_is.true_of.of_core s.left_is.true_of.holds in
+    let answer : IsAnswerFor s.input.weights (certificate_text c) (accepted c.value c.bound) = check_answer-certificate_text s.input.weights s.search.searched.weights c holds short in
+    let value : c.value ≡ s.found.value = s.left_is.true_of.of_core.value_is ∙ ap (λ (x : Found). x.value) (sym s.search.found_is) in
+    let bound : c.bound ≡ s.found.bound = s.left_is.true_of.of_core.bound_is ∙ ap (λ (x : Found). x.bound) (sym s.search.found_is) in
+    let numbers : accepted c.value c.bound ≡ accepted s.found.value s.found.bound = ap (λ (x : ℤ). accepted x c.bound) value ∙ ap (accepted s.found.value) bound in record {
+      accepted_file = ap (λ (fs : List NamedFile). input_named format fs file) files ∙ ap (reading_of format) (named_put_other made w.files file apart) ∙ s.accepted_file;
+      given = record { bytes = certificate_text c; there = ap (λ (fs : List NamedFile). file_named fs name) files ∙ named_put made w.files; answer_is = subst (λ (a : CheckAnswer). IsAnswerFor s.input.weights (certificate_text c) a) numbers answer };
+    }
 
--- what stands under a name was left where the files are told
-told_left : (name : List ℕ) (core : CoreFields) (w : World) (text : List ℕ) → LeavesCertificate (Some name) core (λ file. settled None ≡ with_printed text (with_file file (settled (Some w)))) → ⊥
-told_left name core w text left = cc left.has
+-- the file that was left is among those told after
+files_left : (w : World) (mid : Option World) (text : List ℕ) (left : Option NamedFile) (made : NamedFile) → left ≡ Some made → Leaves text left (Some w) mid → files_of mid ≡ Some (put_file made w.files)
+files_left w mid text left made is leaves =
+    let named : Leaves text (Some made) (Some w) mid = subst (λ (l : Option NamedFile). Leaves text l (Some w) mid) is leaves in
+    sym (files-settled mid) ∙ ap files_of named
 
 -- the two runs of a round trip
-round_trip : (format : Format) (file : List ℕ) (name : List ℕ) (nodes : ℕ) (w : World) (mid new : Option World) (before between now solved checked : ℕ) → name ≢ file → nodes ≤ 1000000 → Ended (Some (Solve format file nodes (Some name))) (Some w) mid before between solved → Ended (Some (Check format file name)) mid new between now checked
-    → before ≤ between → (Rose before now → ⊥) → (solved ≡ 0) ⊎ (solved ≡ 6) → (checked ≡ solved) ⊎ (checked ≡ 5)
-round_trip format file name nodes w None new before between now solved checked apart few first second later calm ends =
-    let s = solves (Some (Solve format file nodes (Some name))) (Some w) None before between solved first ends in
-    absurd (told_left name s.solution.core w (solution_text s.solution) s.left)
-round_trip format file name nodes w (Some v) new before between now solved checked apart few first second later calm ends =
-    agree_at format file name nodes w v new before between now solved checked apart few (solves (Some (Solve format file nodes (Some name))) (Some w) (Some v) before between solved first ends) second later calm
-
-trip_names : (first second : Option Command) → IsRoundTrip first second → (format : Format) × (file : List ℕ) × (name : List ℕ) × (nodes : ℕ) × (first ≡ Some (Solve format file nodes (Some name))) × (second ≡ Some (Check format file name))
-trip_names None second trip = absurd trip
-trip_names (Some (Check format file cert)) second trip = absurd trip
-trip_names (Some (Value format file order_file)) second trip = absurd trip
-trip_names (Some (Gen seed n)) second trip = absurd trip
-trip_names (Some (Solve format file nodes None)) second trip = absurd trip
-trip_names (Some (Solve format file nodes (Some name))) None trip = absurd trip
-trip_names (Some (Solve format file nodes (Some name))) (Some (Solve kind other more cert)) trip = absurd trip
-trip_names (Some (Solve format file nodes (Some name))) (Some (Value kind other order_file)) trip = absurd trip
-trip_names (Some (Solve format file nodes (Some name))) (Some (Gen seed n)) trip = absurd trip
-trip_names (Some (Solve format file nodes (Some name))) (Some (Check kind other cert)) trip =
-    (format, file, name, nodes, refl, ap (λ (k : Format). Some (Check k other cert)) trip.0 ∙ ap (λ (f : List ℕ). Some (Check format f cert)) trip.1 ∙ ap (λ (c : List ℕ). Some (Check format file c)) trip.2)
+trip : (format : Format) (file name : List ℕ) (nodes : ℕ) (w : World) (mid new : Option World) (before between now solved checked : ℕ) → name ≢ file → nodes ≤ 1000000 → DoneBy (Solves format file nodes (Some name) (Some w.files)) (Some w) mid solved → Ended (Some (Check format file name)) mid new between now checked
+    → before ≤ between → ¬ (Rose before now) → (checked ≡ solved) ⊎ (checked ≡ number status.Memory)
+trip format file name nodes w None new before between now solved checked apart few d second later calm =
+    let files = files_left w None d.text d.left _ d.kept.left_is.file_is d.leaves in absurd cc
+trip format file name nodes w (Some v) new before between now solved checked apart few d second later calm =
+    let told = files_left w (Some v) d.text d.left _ d.kept.left_is.file_is d.leaves in
+    let files : v.files ≡ put_file (record { name = name; bytes = certificate_text d.kept.left_is.certificate }) w.files = cc in
+    let checked_is = left_accepted format file name nodes w v d.optimal d.text d.left apart few d.kept files in
+    elim (accepted_ends format file name v new between now checked d.kept.input d.kept.found.value d.kept.found.bound second checked_is (λ rose. calm (rose_from before between now later rose))) [
+      | inl is ↦ inl (is ∙ sym (d.number_is ∙ ap (λ (b : Bool). number (done_status b)) d.kept.optimal_is))
+      | inr five ↦ inr five
+    ]
 
 -- a name that a test finds to be another is another
 other_name : (n f : List ℕ) → bytes_eq n f ≡ false → n ≢ f
 other_name n f test same = not_from_Decides (bytes_eq n f) (bytes_eq-Decides n f) test same
 
+agree_told : (words others : List (List ℕ)) (w : World) (new : Option World) (before now solved checked : ℕ) → BothEnded (command_of words) (command_of others) (Some w) new before now solved checked → IsRoundTrip (command_of words) (command_of others) → ¬ (Rose before now) → IsDoneNumber solved
+    → (checked ≡ solved) ⊎ (checked ≡ number status.Memory)
+agree_told words others w new before now solved checked both (round_trip format file name nodes first second) calm ends =
+    let apart : name ≢ file = other_name name file (names_apart words format file name nodes first) in
+    trip format file name nodes w both.between new before both.faults_between now solved checked apart (limits words (Solve format file nodes (Some name)) first).1
+    (solves (Some w) both.between before both.faults_between solved (command_of words) both.first_ended format file nodes (Some name) first ends)
+    (subst (λ (c : Option Command). Ended c both.between new both.faults_between now checked) second both.second_ended) both.first_later calm
+
 pub agree : (words others : List (List ℕ)) (old new : Option World) (before now solved checked : ℕ) → BothEnded (command_of words) (command_of others) old new before now solved checked → Agree (command_of words) (command_of others) old before now solved checked
 agree words others None new before now solved checked both = tt
-agree words others (Some w) new before now solved checked both = λ trip calm ends.
-    let names = trip_names (command_of words) (command_of others) trip in
-    let apart : names.2 ≢ names.1 = other_name names.2 names.1 (names_apart words names.0 names.1 names.2 names.3 names.4) in
-    round_trip names.0 names.1 names.2 names.3 w both.between new before both.faults_between now solved checked apart (limits words (Solve names.0 names.1 names.3 (Some names.2)) names.4).1
-    (subst (λ (c : Option Command). Ended c (Some w) both.between before both.faults_between solved) names.4 both.first_ended)
-    (subst (λ (c : Option Command). Ended c both.between new both.faults_between now checked) names.5 both.second_ended) both.first_later calm ends
+agree words others (Some w) new before now solved checked both = λ trip calm ends. agree_told words others w new before now solved checked both trip calm ends

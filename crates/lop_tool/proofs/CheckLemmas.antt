@@ -1,30 +1,53 @@
 -- How the steps of `check` come to its reply.
-use Rattle.std.proofs.Common.{◌≡◌, ℕ, List, [], drop, Option, None, Some, IfSome, IfOk, unwrap_or, Result, Ok, Err, IsSome, refl, sym, ◌∙◌, ap, subst}
+use Rattle.std.proofs.Common.{◌≡◌, ◌⊎◌, ℕ, ◌≤◌, Bool, List, [], ◌∷◌, drop, Option, None, Some, IfSome, IfOk, IfErr, unwrap_or, Result, Ok, Err, IsSome, ℤ, inl, inr, refl, sym, ◌∙◌, ap, subst}
 use Rattle.lop_desk.specs.World.{World, NamedFile, file_named, unread, with_opened}
-use Rattle.lop_desk.specs.Desk.{IsThere}
-use Rattle.lop_desk.specs.Whole.{OnlyOpens}
+use Rattle.lop_desk.specs.Desk.{IsThere, IsMissing}
+use Rattle.lop_desk.proofs.Printing.{rose_from}
 use Rattle.lop_model.specs.Matrix.{Matrix}
-use Rattle.lop_certtext.specs.Answer.{CheckAnswer, too_long, IsCheckAnswer}
+use Rattle.lop_certtext.specs.Answer.{CheckAnswer, accepted, rejected, too_long}
+use Rattle.lop_words.specs.declared.command.Command.{Command}
+use Rattle.lop_words.specs.declared.command.Command.TheVariants.{Check}
 use Rattle.lop_words.specs.declared.command.Format.{Format}
 use Rattle.lop_tool.specs.declared.input.Instance.{Instance}
-use Rattle.lop_tool.specs.declared.reply.Outcome.{Outcome}
-use Rattle.lop_tool.specs.declared.reply.Refusal.TheVariants.{Words, Input, Order, LongCertificate}
-use Rattle.lop_tool.specs.declared.reply.Reply.{Reply}
-use Rattle.lop_tool.specs.declared.reply.Reply.TheVariants.{Refused, Solved, Checked, Valued, Generated}
+use Rattle.lop_tool.specs.declared.refusal.Refusal.{Refusal}
+use Rattle.lop_tool.specs.declared.refusal.Refusal.TheVariants.{Input, LongCertificate}
+use Rattle.lop_tool.specs.declared.rejection.Rejection.{Rejection}
+use Rattle.lop_tool.specs.declared.rejection.Rejection.TheVariants.{Certificate}
+use Rattle.lop_tool.specs.declared.checking.Outcome.{Outcome}
+use Rattle.lop_tool.specs.declared.checking.Outcome.TheVariants.{Accepted, Rejected}
+use Rattle.lop_tool.specs.declared.stop.Stop.{Stop}
+use Rattle.lop_tool.specs.declared.stop.Stop.TheVariants as stop
+use Rattle.lop_tool.specs.Told.{files_of, settled}
 use Rattle.lop_tool.specs.Input.{input_named}
-use Rattle.lop_tool.specs.Run.{AnswersCheck, IsChecked, IsBounded, answer_of}
-use Rattle.lop_tool.specs.CheckSteps.{ChecksBytes, ChecksNamed, GivesAnswer}
+use Rattle.lop_tool.specs.Check.{IsAnswerFor, GivesAnswer, IsChecked, Accepts, rejected_for, RejectsCertificate, IsLongCertificate, answer_of, outcome_text, outcome_status, IsBounded, AnswersRest, RestStop, AnswersNamed, NamedStop}
+use Rattle.lop_tool.specs.Steps.{RefusesFirst, IsAccepted, IsRejection, IsFirstRefusal}
+use Rattle.lop_tool.specs.Reply.{IsReply, IsDone, accepted as accepted_reply, done, rejected as rejected_reply, IsRight}
+use Rattle.lop_tool.specs.Ended.{StopCause, NoFile}
+use Rattle.lop_tool.proofs.Ends.{right_alone}
+use Rattle.lop_tool.proofs.Stops.{any_second, told_files, told_map, told_both, told_before, missing_before}
 
--- the files are the same where only the opened file differs
-pub same_files : (v w : World) → OnlyOpens (Some v) (Some w) → w.files ≡ v.files
-same_files v w opens = files_of opens
-  where
-    the_files : Option World → List NamedFile
-    the_files None = v.files
-    the_files (Some x) = x.files
+-- ---- the checker has one answer
 
-    files_of : with_opened None (Some w) ≡ with_opened None (Some v) → w.files ≡ v.files
-    files_of e = ap the_files e
+answer_once : (C : Matrix) (bytes : List ℕ) (a b : CheckAnswer) → IsAnswerFor C bytes a → IsAnswerFor C bytes b → a ≡ b
+answer_once C bytes a b first second = sym first ∙ second
+
+given_once : (C : Matrix) (name : List ℕ) (files : List NamedFile) (a b : CheckAnswer) → GivesAnswer C name files a → GivesAnswer C name files b → a ≡ b
+given_once C name files a b first second =
+    let read : first.bytes ≡ second.bytes = cc (first.there, second.there) in
+    answer_once C second.bytes a b (subst (λ (bs : List ℕ). IsAnswerFor C bs a) read first.answer_is) second.answer_is
+
+pub checked_once : (format : Format) (file cert : List ℕ) (files : List NamedFile) (C D : Instance) (a b : CheckAnswer) → IsChecked format file cert files C a → IsChecked format file cert files D b → a ≡ b
+checked_once format file cert files C D a b first second =
+    let same : C ≡ D = cc (first.accepted_file, second.accepted_file) in
+    given_once D.weights cert files a b (subst (λ (i : Instance). GivesAnswer i.weights cert files a) same first.given) second.given
+
+not_long : (r : Rejection) → rejected_for r ≡ too_long → ⊥
+not_long (Certificate line reason) is = cc
+
+not_accepted : (r : Rejection) (value bound : ℤ) → rejected_for r ≡ accepted value bound → ⊥
+not_accepted (Certificate line reason) value bound is = cc
+
+-- ---- the steps
 
 -- all of a file that was just opened is still to be read
 fresh : (bytes : Option (List ℕ)) → IsSome bytes → (b : List ℕ) × (bytes ≡ Some b) × (drop 0 (unwrap_or bytes []) ≡ b)
@@ -35,62 +58,84 @@ abbrev to_read : Option World → List ℕ
 to_read None = []
 to_read (Some v) = unread v
 
-gives_at : (C : Matrix) (name : List ℕ) (w v : World) (answer : CheckAnswer) → Some v ≡ with_opened (Some (record { name = name; place = 0 })) (Some w) → IsSome (file_named w.files name) → IsCheckAnswer C (unread v) answer → GivesAnswer C name w answer
+gives_at : (C : Matrix) (name : List ℕ) (w v : World) (answer : CheckAnswer) → Some v ≡ with_opened (Some (record { name = name; place = 0 })) (Some w) → IsSome (file_named w.files name) → IsAnswerFor C (unread v) answer → GivesAnswer C name w.files answer
 gives_at C name w v answer is there found =
     let all = fresh (file_named w.files name) there in
     let rest : unread v ≡ all.0 = ap to_read is ∙ all.2 in
-    record { bytes = all.0; there = all.1; answer_is = subst (λ (l : List ℕ). IsCheckAnswer C l answer) rest found }
+    record { bytes = all.0; there = all.1; answer_is = subst (λ (bs : List ℕ). IsAnswerFor C bs answer) rest found }
 
-ChecksNamed-opened : (input : Instance) (name : List ℕ) (old new : Option World) (reply : Reply) → new ≡ with_opened (Some (record { name = name; place = 0 })) old → IsThere old name → ChecksBytes input new reply → ChecksNamed input name old reply
-ChecksNamed-opened input name None new (Checked x) is there checks = (checks.0, checks.1, tt)
-ChecksNamed-opened input name (Some w) None (Checked x) is there checks = absurd cc
-ChecksNamed-opened input name (Some w) (Some v) (Checked x) is there checks = (checks.0, checks.1, gives_at input.weights name w v (answer_of x.outcome) is there checks.2)
-ChecksNamed-opened input name None new (Refused LongCertificate) is there checks = tt
-ChecksNamed-opened input name (Some w) None (Refused LongCertificate) is there checks = absurd cc
-ChecksNamed-opened input name (Some w) (Some v) (Refused LongCertificate) is there checks = gives_at input.weights name w v too_long is there checks
-ChecksNamed-opened input name old new (Refused (Input refusal)) is there checks = checks
-ChecksNamed-opened input name old new (Refused Words) is there checks = checks
-ChecksNamed-opened input name old new (Solved x) is there checks = checks
-ChecksNamed-opened input name old new (Generated x) is there checks = checks
-ChecksNamed-opened input name old new (Valued x) is there checks = checks
-ChecksNamed-opened input name old new (Refused (Order refusal)) is there checks = checks
+gives_opened : (C : Matrix) (name : List ℕ) (old new : Option World) (answer : CheckAnswer) → new ≡ with_opened (Some (record { name = name; place = 0 })) old → IsThere old name → AnswersRest C new answer → AnswersNamed C name old answer
+gives_opened C name None new answer is there found = tt
+gives_opened C name (Some w) None answer is there found = absurd cc
+gives_opened C name (Some w) (Some v) answer is there found = gives_at C name w v answer is there found
 
--- the same for an answer that may be none
-pub checks_opened : {E : Type 0} (input : Instance) (name : List ℕ) (old new : Option World) (result : Result Reply E) → new ≡ with_opened (Some (record { name = name; place = 0 })) old → IsThere old name → IfOk result (ChecksBytes input new) → IfOk result (ChecksNamed input name old)
-checks_opened input name old new (Ok reply) is there checks = ChecksNamed-opened input name old new reply is there checks
-checks_opened input name old new (Err e) is there checks = checks
+pub answers_opened : {E : Type 0} (C : Matrix) (name : List ℕ) (old new : Option World) (r : Result Outcome E) → new ≡ with_opened (Some (record { name = name; place = 0 })) old → IsThere old name → IfOk r (λ x. AnswersRest C new (answer_of x)) → IfOk r (λ x. AnswersNamed C name old (answer_of x))
+answers_opened C name old new (Ok x) is there found = gives_opened C name old new (answer_of x) is there found
+answers_opened C name old new (Err e) is there found = tt
 
--- the files are the same where only the opened file differs
-checked_at : (format : Format) (input : Instance) (file cert : List ℕ) (w v : World) (answer : CheckAnswer) → OnlyOpens (Some w) (Some v) → input_named format w.files file ≡ Some (Ok input) → GivesAnswer input.weights cert v answer → IsChecked format file cert w input answer
-checked_at format input file cert w v answer opens read gives = record {
-  accepted_file = read;
-  bytes = gives.bytes;
-  there = ap (λ (fs : List NamedFile). file_named fs cert) (sym (same_files w v opens)) ∙ gives.there;
-  answer_is = gives.answer_is;
+pub stops_opened : (C : Matrix) (name : List ℕ) (old new : Option World) (before between now : ℕ) (r : Result Outcome Stop) → new ≡ with_opened (Some (record { name = name; place = 0 })) old → IsThere old name → before ≤ between → IfErr r (RestStop C new between now)
+    → IfErr r (NamedStop C name old before now)
+stops_opened C name old new before between now (Ok x) is there later found = tt
+stops_opened C name old new before between now (Err (stop.Refused refusal)) is there later found = (found.0, gives_opened C name old new too_long is there found.1)
+stops_opened C name old new before between now (Err stop.Fault) is there later found = inr (rose_from before between now later found)
+stops_opened C name old new before between now (Err stop.Memory) is there later found = tt
+
+-- ---- the reply
+
+checked_at : (format : Format) (file cert : List ℕ) (input : Instance) (answer : CheckAnswer) (files : List NamedFile) → input_named format files file ≡ Some (Ok input) → GivesAnswer input.weights cert files answer → IsChecked format file cert files input answer
+checked_at format file cert input answer files read given = record { accepted_file = read; given = given }
+
+-- what is accepted is neither refused nor rejected
+pub accepted_at : (format : Format) (file cert : List ℕ) (input : Instance) (value bound : ℤ) (files : List NamedFile) → IsChecked format file cert files input (accepted value bound) → IsAccepted (Check format file cert) files
+accepted_at format file cert input value bound files checked = record {
+  unrefused = λ refusal refused.
+      let long = subst (λ o. RefusesFirst o Input (λ i. IsLongCertificate i.weights cert files) refusal) checked.accepted_file refused in
+      let same : accepted value bound ≡ too_long = given_once input.weights cert files (accepted value bound) too_long checked.given long.given in absurd cc;
+  unrejected = λ rejection r. not_accepted rejection value bound (checked_once format file cert files r.input input (rejected_for rejection) (accepted value bound) r.checked checked);
 }
 
-answers_at : (format : Format) (input other : Instance) (file cert : List ℕ) (w v : World) (outcome : Outcome) → other ≡ input → OnlyOpens (Some w) (Some v) → input_named format w.files file ≡ Some (Ok input) → GivesAnswer input.weights cert v (answer_of outcome) → IsChecked format file cert w other (answer_of outcome)
-answers_at format input other file cert w v outcome same opens read gives = subst (λ (x : Instance). IsChecked format file cert w x (answer_of outcome)) (sym same) (checked_at format input file cert w v (answer_of outcome) opens read gives)
+outcome_right : (format : Format) (file cert : List ℕ) (input : Instance) (told : Option (List NamedFile)) (x : Outcome) → IsBounded input.weights x → IfSome told (λ files. IsChecked format file cert files input (answer_of x)) → IsReply told (Some (Check format file cert)) (outcome_status x) (outcome_text x) None
+outcome_right format file cert input told (Accepted value bound) bounded checked =
+    done (told_map (λ files. IsChecked format file cert files input (accepted value bound)) (IsAccepted (Check format file cert)) told (accepted_at format file cert input value bound) checked) (accepted_reply (record {
+      input = input;
+      value = value;
+      bound = bound;
+      checked = checked;
+      weighed = bounded.0;
+      bounds = bounded.1;
+      optimal_is = refl;
+      text_is = refl;
+      left_is = refl;
+    }))
+outcome_right format file cert input told (Rejected r) bounded checked =
+    rejected_reply r (told_map (λ files. IsChecked format file cert files input (rejected_for r)) (λ files. RejectsCertificate format file cert files r) told (λ files c. record { input = input; checked = c }) checked) refl
 
-bounded_at : (input other : Instance) (outcome : Outcome) → other ≡ input → IsBounded input.weights outcome → IsBounded other.weights outcome
-bounded_at input other outcome same bounded = subst (λ (x : Instance). IsBounded x.weights outcome) (sym same) bounded
+pub check_right : {E : Type 0} (format : Format) (file cert : List ℕ) (input : Instance) (old mid : Option World) (r : Result Outcome E) → settled mid ≡ settled old → IfSome old (λ w. input_named format w.files file ≡ Some (Ok input)) → IfOk r (IsBounded input.weights) → IfOk r (λ x. AnswersNamed input.weights cert mid (answer_of x))
+    → IfOk r (λ x. IsRight (files_of old) (Some (Check format file cert)) (outcome_status x) (outcome_text x) NoFile)
+check_right format file cert input old mid (Ok x) same read bounded answers =
+    right_alone (files_of old) (Some (Check format file cert)) (outcome_status x) (outcome_text x) (outcome_right format file cert input (files_of old) x bounded
+    (told_both (λ files. input_named format files file ≡ Some (Ok input)) (λ files. GivesAnswer input.weights cert files (answer_of x)) (λ files. IsChecked format file cert files input (answer_of x)) (files_of old)
+    (checked_at format file cert input (answer_of x)) (told_files (λ files. input_named format files file ≡ Some (Ok input)) old read) (told_before (λ files. GivesAnswer input.weights cert files (answer_of x)) old mid same answers)))
+check_right format file cert input old mid (Err e) same read bounded answers = tt
 
-AnswersCheck-named : (format : Format) (input : Instance) (file cert : List ℕ) (old mid : Option World) (reply : Reply) → OnlyOpens old mid → IfSome old (λ w. input_named format w.files file ≡ Some (Ok input)) → ChecksNamed input cert mid reply → AnswersCheck format file cert old reply
-AnswersCheck-named format input file cert None mid (Checked x) opens read checks = (bounded_at input x.input x.outcome checks.0 checks.1, tt)
-AnswersCheck-named format input file cert (Some w) None (Checked x) opens read checks = absurd cc
-AnswersCheck-named format input file cert (Some w) (Some v) (Checked x) opens read checks =
-    (bounded_at input x.input x.outcome checks.0 checks.1, answers_at format input x.input file cert w v x.outcome checks.0 opens read checks.2)
-AnswersCheck-named format input file cert None mid (Refused LongCertificate) opens read checks = tt
-AnswersCheck-named format input file cert (Some w) None (Refused LongCertificate) opens read checks = absurd cc
-AnswersCheck-named format input file cert (Some w) (Some v) (Refused LongCertificate) opens read checks = (input, checked_at format input file cert w v too_long opens read checks)
-AnswersCheck-named format input file cert old mid (Refused (Input refusal)) opens read checks = absurd checks
-AnswersCheck-named format input file cert old mid (Refused Words) opens read checks = checks
-AnswersCheck-named format input file cert old mid (Solved x) opens read checks = checks
-AnswersCheck-named format input file cert old mid (Generated x) opens read checks = checks
-AnswersCheck-named format input file cert old mid (Valued x) opens read checks = checks
-AnswersCheck-named format input file cert old mid (Refused (Order refusal)) opens read checks = checks
+pub check_stops : (format : Format) (file cert : List ℕ) (input : Instance) (old mid : Option World) (before between now : ℕ) (r : Result Outcome Stop) → settled mid ≡ settled old → before ≤ between → IfSome old (λ w. input_named format w.files file ≡ Some (Ok input)) → IfErr r (NamedStop input.weights cert mid between now)
+    → IfErr r (StopCause (Check format file cert) old before now)
+check_stops format file cert input old mid before between now (Ok x) same later read cause = tt
+check_stops format file cert input old mid before between now (Err (stop.Refused refusal)) same later read cause =
+    told_both (λ files. input_named format files file ≡ Some (Ok input)) (λ files. GivesAnswer input.weights cert files too_long) (λ files. RefusesFirst (input_named format files file) Input (λ i. IsLongCertificate i.weights cert files) refusal) (files_of old)
+    (λ files is given. subst (λ o. RefusesFirst o Input (λ i. IsLongCertificate i.weights cert files) refusal) (sym is) (record { refusal_is = cause.0; given = given })) (told_files (λ files. input_named format files file ≡ Some (Ok input)) old read)
+    (told_before (λ files. GivesAnswer input.weights cert files too_long) old mid same cause.1)
+check_stops format file cert input old mid before between now (Err stop.Fault) same later read (inl missing) = inl (any_second (IsMissing old) file cert [] (missing_before cert old mid same missing))
+check_stops format file cert input old mid before between now (Err stop.Fault) same later read (inr rose) = inr (rose_from before between now later rose)
+check_stops format file cert input old mid before between now (Err stop.Memory) same later read cause = tt
 
-pub answers_check : {E : Type 0} (format : Format) (input : Instance) (file cert : List ℕ) (old mid : Option World) (result : Result Reply E) → OnlyOpens old mid → IfSome old (λ w. input_named format w.files file ≡ Some (Ok input)) → IfOk result (ChecksNamed input cert mid)
-    → IfOk result (AnswersCheck format file cert old)
-answers_check format input file cert old mid (Ok reply) opens read checks = AnswersCheck-named format input file cert old mid reply opens read checks
-answers_check format input file cert old mid (Err e) opens read checks = checks
+-- what is rejected is not refused
+pub rejected_unrefused : (c : Command) (files : List NamedFile) (r : Rejection) (f : Refusal) → IsRejection c (Some files) r → IsFirstRefusal c (Some files) f → ⊥
+rejected_unrefused (Check format file cert) files r f rejection refused =
+    let long = subst (λ o. RefusesFirst o Input (λ i. IsLongCertificate i.weights cert files) f) rejection.checked.accepted_file refused in
+    not_long r (given_once rejection.input.weights cert files (rejected_for r) too_long rejection.checked.given long.given)
+rejected_unrefused other files r f rejection refused = absurd rejection
+
+-- the promise of a `check` that accepted
+pub accepts_of : (told : Option (List NamedFile)) (format : Format) (file cert : List ℕ) (optimal : Bool) (text : List ℕ) (left : Option NamedFile) → IsDone told (Check format file cert) optimal text left → Accepts format file cert told optimal text left
+accepts_of told format file cert optimal text left (accepted_reply s) = s

@@ -1,70 +1,76 @@
 -- How the steps of a run make its end.
-use Rattle.std.proofs.Common.{◌≡◌, ℕ, ◌≤◌, List, take, Option, None, Some, inr, refl, ◌∙◌, ap}
-use Rattle.lop_desk.specs.World.{World, NamedFile, with_printed}
-use Rattle.lop_desk.specs.Whole.{PrintsFront}
+use Rattle.std.proofs.Common.{◌≡◌, ◌⊎◌, ℕ, ◌≤◌, List, take, Option, None, Some, IfSome, inl, inr, refl, sym, ◌∙◌, ap, subst, arith}
+use Rattle.lop_desk.specs.World.{World, NamedFile, with_printed, with_made}
+use Rattle.lop_desk.specs.Whole.{PrintsFront, OnlyOpens}
 use Rattle.lop_desk.specs.Causes.{Rose}
 use Rattle.lop_desk.proofs.Printing.{rose_from}
 use Rattle.lop_words.specs.declared.command.Command.{Command}
-use Rattle.lop_tool.specs.declared.reply.Reply.{Reply}
-use Rattle.lop_core.specs.Core.{CoreFields}
-use Rattle.lop_tool.specs.Keeping.{Delivered, whole, part, fault}
-use Rattle.lop_tool.specs.declared.reply.Refusal.TheVariants.{Words}
-use Rattle.lop_tool.specs.declared.reply.Reply.TheVariants.{Refused, Solved, Checked, Valued, Generated}
-use Rattle.lop_tool.specs.Reply.{refusal_line, reply_text, reply_status}
-use Rattle.lop_tool.specs.Run.{settled, with_file, LeavesCertificate, LeavesFile, cert_name, AnswersCommand, Ended, replied, cut_off, faulted}
+use Rattle.lop_tool.specs.declared.status.Status.{Status}
+use Rattle.lop_tool.specs.declared.status.Status.TheVariants as status
+use Rattle.lop_tool.specs.declared.stop.Stop.{Stop}
+use Rattle.lop_tool.specs.declared.stop.Stop.TheVariants as stop
+use Rattle.lop_tool.specs.Status.{number}
+use Rattle.lop_tool.specs.Told.{files_of, settled, with_file, Leaves}
+use Rattle.lop_tool.specs.Refusal.{refusal_line, words_line}
+use Rattle.lop_tool.specs.Reply.{IsReply, refused_input, refused_words, IsRight}
+use Rattle.lop_tool.specs.Ended.{Ended, replied, cut_off, faulted, lacked, Faulted, Delivered, whole, part, fault, NoFile, Stopped, StopCause}
 
 -- printing goes on beside the opened and the made file
 pub settled-printed : (text : List ℕ) (told : Option World) → settled (with_printed text told) ≡ with_printed text (settled told)
 settled-printed text None = refl
 settled-printed text (Some w) = refl
 
-pub ends_refused : (old new : Option World) (before now : ℕ) → new ≡ with_printed (refusal_line Words) old → Ended None old new before now 2
-ends_refused old new before now prints = replied (Refused Words) refl refl (ap settled prints ∙ settled-printed (refusal_line Words) old)
-
-pub ends_refused_cut : (old new : Option World) (before now : ℕ) → Rose before now → PrintsFront old new (refusal_line Words) → Ended None old new before now 4
-ends_refused_cut old new before now rose (n, prints) = cut_off (Refused Words) n refl (inr rose) refl (ap settled prints ∙ settled-printed _ old)
-
--- what one property says of the file that a reply leaves, another says too
-pub LeavesCertificate-map : (name : Option (List ℕ)) (core : CoreFields) (P Q : Option NamedFile → Type 0) → ((file : Option NamedFile) → P file → Q file) → LeavesCertificate name core P → LeavesCertificate name core Q
-LeavesCertificate-map None core P Q f leaves = f None leaves
-LeavesCertificate-map (Some name) core P Q f leaves = record { certificate = leaves.certificate; of_core = leaves.of_core; holds = leaves.holds; enough = leaves.enough; has = f _ leaves.has }
-
-pub LeavesFile-map : (name : Option (List ℕ)) (reply : Reply) (P Q : Option NamedFile → Type 0) → ((file : Option NamedFile) → P file → Q file) → LeavesFile name reply P → LeavesFile name reply Q
-LeavesFile-map name (Solved x) P Q f leaves = LeavesCertificate-map name x.core P Q f leaves
-LeavesFile-map name (Checked x) P Q f leaves = f None leaves
-LeavesFile-map name (Valued x) P Q f leaves = f None leaves
-LeavesFile-map name (Generated x) P Q f leaves = f None leaves
-LeavesFile-map name (Refused refusal) P Q f leaves = f None leaves
+-- what only opens a file leaves all else
+pub settled-opened : (old new : Option World) → OnlyOpens old new → settled new ≡ settled old
+settled-opened old new opens = ap (with_made None) opens
 
 -- after the file is left, a text is printed
-printed_after : (name : Option (List ℕ)) (reply : Reply) (text : List ℕ) (old mid new : Option World) → LeavesFile name reply (λ file. settled mid ≡ with_file file (settled old)) → new ≡ with_printed text mid
-    → LeavesFile name reply (λ file. settled new ≡ with_printed text (with_file file (settled old)))
-printed_after name reply text old mid new left prints =
-    LeavesFile-map name reply (λ file. settled mid ≡ with_file file (settled old)) (λ file. settled new ≡ with_printed text (with_file file (settled old)))
-    (λ file kept. ap settled prints ∙ settled-printed text mid ∙ ap (λ (t : Option World). with_printed text t) kept) left
+printed_after : (left : Option NamedFile) (text : List ℕ) (old mid new : Option World) → settled mid ≡ with_file left (settled old) → new ≡ with_printed text mid → Leaves text left old new
+printed_after left text old mid new kept prints = ap settled prints ∙ settled-printed text mid ∙ ap (λ (t : Option World). with_printed text t) kept
 
 -- a reply that was printed whole
-pub delivered_whole : (name : Option (List ℕ)) (reply : Reply) (text : List ℕ) (answer : ℕ) (old mid new : Option World) (before now : ℕ) → LeavesFile name reply (λ file. settled mid ≡ with_file file (settled old)) → new ≡ with_printed text mid
-    → Delivered name reply text answer old new before now answer
-delivered_whole name reply text answer old mid new before now left prints = whole refl (printed_after name reply text old mid new left prints)
+pub delivered_whole : (leaves : Option NamedFile → Type 0) (text : List ℕ) (answer ends : Status) (old mid new : Option World) (before now : ℕ) → ends ≡ answer → (left : Option NamedFile) × leaves left × (settled mid ≡ with_file left (settled old)) → new ≡ with_printed text mid
+    → Delivered leaves text answer old new before now ends
+delivered_whole leaves text answer ends old mid new before now is kept prints = whole kept.0 kept.1 is (printed_after kept.0 text old mid new kept.2 prints)
 
 -- a reply whose text was cut off
-pub delivered_part : (name : Option (List ℕ)) (reply : Reply) (text : List ℕ) (answer : ℕ) (old mid new : Option World) (before between now : ℕ) → LeavesFile name reply (λ file. settled mid ≡ with_file file (settled old)) → before ≤ between → Rose between now
-    → PrintsFront mid new text → Delivered name reply text answer old new before now 4
-delivered_part name reply text answer old mid new before between now left later rose (n, prints) =
-    part n refl (rose_from before between now later rose) (printed_after name reply (take n text) old mid new left prints)
+pub delivered_part : (leaves : Option NamedFile → Type 0) (text : List ℕ) (answer : Status) (old mid new : Option World) (before between now : ℕ) → (left : Option NamedFile) × leaves left × (settled mid ≡ with_file left (settled old)) → before ≤ between → Rose between now
+    → PrintsFront mid new text → Delivered leaves text answer old new before now status.Fault
+delivered_part leaves text answer old mid new before between now kept later rose (n, prints) =
+    part kept.0 n kept.1 refl (rose_from before between now later rose) (printed_after kept.0 (take n text) old mid new kept.2 prints)
 
--- the file that a reply leaves is the same where nothing but the opened and the made file differ
-moved : (name : Option (List ℕ)) (reply : Reply) (text : List ℕ) (old mid new : Option World) → settled mid ≡ settled old → LeavesFile name reply (λ file. settled new ≡ with_printed text (with_file file (settled mid)))
-    → LeavesFile name reply (λ file. settled new ≡ with_printed text (with_file file (settled old)))
-moved name reply text old mid new same left =
-    LeavesFile-map name reply (λ file. settled new ≡ with_printed text (with_file file (settled mid))) (λ file. settled new ≡ with_printed text (with_file file (settled old)))
-    (λ file is. is ∙ ap (λ (t : Option World). with_printed text (with_file file t)) same) left
+moved : (left : Option NamedFile) (text : List ℕ) (old mid new : Option World) → settled mid ≡ settled old → Leaves text left mid new → Leaves text left old new
+moved left text old mid new same leaves = leaves ∙ ap (λ (t : Option World). with_printed text (with_file left t)) same
 
 -- a reply that was decided while the files stayed, and then delivered
-pub ends_delivered : (command : Command) (reply : Reply) (old mid new : Option World) (before between now status : ℕ) → AnswersCommand command old reply → settled mid ≡ settled old → before ≤ between
-    → Delivered (cert_name command) reply (reply_text reply) (reply_status reply) mid new between now status → Ended (Some command) old new before now status
-ends_delivered command reply old mid new before between now status answers same later (whole is left) = replied reply answers is (moved (cert_name command) reply (reply_text reply) old mid new same left)
-ends_delivered command reply old mid new before between now status answers same later (part n is rose left) =
-    cut_off reply n is (inr (rose_from before between now later rose)) answers (moved (cert_name command) reply (take n (reply_text reply)) old mid new same left)
-ends_delivered command reply old mid new before between now status answers same later (fault is rose left) = faulted is (inr (rose_from before between now later rose)) (left ∙ same)
+pub ends_right : (command : Option Command) (s : Status) (text : List ℕ) (leaves : Option NamedFile → Type 0) (old mid new : Option World) (before between now : ℕ) (ends : Status) → IsRight (files_of old) command s text leaves → settled mid ≡ settled old → before ≤ between
+    → Delivered leaves text s mid new between now ends → Ended command old new before now (number ends)
+ends_right command s text leaves old mid new before between now ends right same later (whole left kept is leave) = replied s text left (right left kept) (ap number is) (moved left text old mid new same leave)
+ends_right command s text leaves old mid new before between now ends right same later (part left n kept is rose leave) =
+    cut_off s text left n (right left kept) (ap number is) (inr (rose_from before between now later rose)) (moved left (take n text) old mid new same leave)
+ends_right command s text leaves old mid new before between now ends right same later (fault is rose leave) = faulted (ap number is) (inr (rose_from before between now later rose)) (leave ∙ same)
+
+-- a reply that leaves no file
+pub right_alone : (told : Option (List NamedFile)) (command : Option Command) (s : Status) (text : List ℕ) → IsReply told command s text None → IsRight told command s text NoFile
+right_alone told command s text right = λ left none. subst (λ (l : Option NamedFile). IsReply told command s text l) (sym none) right
+
+pub rose_until : (before between now : ℕ) → Rose before between → between ≤ now → Rose before now
+rose_until before between now rose later = omega (arith, rose, later)
+
+still_faulted : (command : Option Command) (old : Option World) (before between now : ℕ) → Faulted command old before between → between ≤ now → Faulted command old before now
+still_faulted command old before between now (inl missing) later = inl missing
+still_faulted command old before between now (inr rose) later = inr (rose_until before between now rose later)
+
+-- a run that stopped
+pub ends_stopped : (command : Command) (stop : Stop) (old mid new : Option World) (before between now : ℕ) (ends : Status) → StopCause command old before between stop → settled mid ≡ settled old → before ≤ between → between ≤ now → Stopped stop mid new between now ends
+    → Ended (Some command) old new before now (number ends)
+ends_stopped command (stop.Refused refusal) old mid new before between now ends cause same later after stopped =
+    let right = right_alone (files_of old) (Some command) status.Refused (refusal_line refusal) (refused_input refusal cause refl) in
+    ends_right (Some command) status.Refused (refusal_line refusal) NoFile old mid new before between now ends right same later stopped
+ends_stopped command stop.Fault old mid new before between now ends cause same later after stopped = faulted (ap number stopped.0) (still_faulted (Some command) old before between now cause after) (ap settled stopped.1 ∙ same)
+ends_stopped command stop.Memory old mid new before between now ends cause same later after stopped = lacked (ap number stopped.0) (ap settled stopped.1 ∙ same)
+
+-- words that are no command
+pub ends_words : (old new : Option World) (before now : ℕ) (ends : Status) → Delivered NoFile words_line status.NoCommand old new before now ends → Ended None old new before now (number ends)
+ends_words old new before now ends delivered =
+    ends_right None status.NoCommand words_line NoFile old old new before before now ends (right_alone (files_of old) None status.NoCommand words_line (refused_words refl)) refl (omega arith) delivered

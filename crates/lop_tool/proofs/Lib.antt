@@ -1,7 +1,10 @@
-pub mod CheckLemmas
 pub mod Ends
-pub mod Promises
-pub mod CertificateLength
-pub mod Agreement
+pub mod Stops
 pub mod SearchedLemmas
+pub mod CertificateLength
+pub mod SolveLemmas
+pub mod CheckLemmas
 pub mod ValueLemmas
+pub mod GenLemmas
+pub mod Promises
+pub mod Agreement

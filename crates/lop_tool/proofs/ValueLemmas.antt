@@ -1,17 +1,28 @@
 -- How the steps of `value` come to its reply.
-use Rattle.std.proofs.Common.{◌≡◌, ℕ, List, Option, None, Some, IfSome, IfOk, Result, Ok, Err, ℤ, sym, ◌∙◌, ap, subst}
+use Rattle.std.proofs.Common.{◌≡◌, ◌⊎◌, ℕ, ◌≤◌, Bool, true, List, [], Option, None, Some, IfSome, IfOk, IfErr, Result, Ok, Err, inl, inr, refl, sym, ◌∙◌, ap, subst}
 use Rattle.lop_desk.specs.World.{World, NamedFile, file_named}
-use Rattle.lop_desk.specs.Whole.{OnlyOpens}
+use Rattle.lop_desk.specs.Desk.{IsMissing}
+use Rattle.lop_desk.proofs.Printing.{rose_from}
+use Rattle.lop_words.specs.declared.command.Command.TheVariants.{Value}
 use Rattle.lop_words.specs.declared.command.Format.{Format}
+use Rattle.lop_model.specs.Order.{IsOrder}
+use Rattle.lop_model.specs.Matrix.{weight}
+use Rattle.lop_report.specs.AnswerText.{value_text}
 use Rattle.lop_tool.specs.declared.input.Instance.{Instance}
-use Rattle.lop_tool.specs.declared.reply.OrderFileRefusal.{OrderFileRefusal}
-use Rattle.lop_tool.specs.declared.reply.Refusal.TheVariants.{Words, Input, Order, LongCertificate}
-use Rattle.lop_tool.specs.declared.reply.Reply.{Reply}
-use Rattle.lop_tool.specs.declared.reply.Reply.TheVariants.{Refused, Solved, Checked, Valued, Generated}
+use Rattle.lop_tool.specs.declared.refusal.OrderFileRefusal.{OrderFileRefusal}
+use Rattle.lop_tool.specs.declared.refusal.Refusal.TheVariants.{Input, Order}
+use Rattle.lop_tool.specs.declared.weighing.Valuation.{Valuation}
+use Rattle.lop_tool.specs.declared.stop.Stop.{Stop}
+use Rattle.lop_tool.specs.declared.stop.Stop.TheVariants as stop
+use Rattle.lop_tool.specs.Status.{done_status}
+use Rattle.lop_tool.specs.Told.{files_of, settled}
 use Rattle.lop_tool.specs.Input.{input_named, order_named, order_reading_of, order_file_reading}
-use Rattle.lop_tool.specs.Run.{AnswersValue, IsWeighedOrder}
-use Rattle.lop_tool.specs.ValueSteps.{HasWeight, WeighsNamed}
-use Rattle.lop_tool.proofs.CheckLemmas.{same_files}
+use Rattle.lop_tool.specs.Value.{Weighs, WeighsNamed, valuation_text}
+use Rattle.lop_tool.specs.Steps.{RefusesFirst, NoMore, IsAccepted}
+use Rattle.lop_tool.specs.Reply.{IsReply, IsDone, weighed, done, IsRight}
+use Rattle.lop_tool.specs.Ended.{FileCause, StopCause, OrderStop, NoFile}
+use Rattle.lop_tool.proofs.Ends.{right_alone}
+use Rattle.lop_tool.proofs.Stops.{any_second, told_files, told_both, told_before, missing_before}
 
 -- what the bytes under a name are read as
 pub named_order : {E : Type 0} (n : ℕ) (name : List ℕ) (told : Option World) (bytes : List ℕ) (r : Result (Result (List ℕ) OrderFileRefusal) E) → IfSome told (λ w. file_named w.files name ≡ Some bytes) → IfOk r (λ input. order_file_reading n bytes ≡ input)
@@ -20,33 +31,60 @@ named_order n name None bytes (Ok input) there read = tt
 named_order n name (Some w) bytes (Ok input) there read = ap (order_reading_of n) there ∙ ap (λ (x : Result (List ℕ) OrderFileRefusal). Some x) read
 named_order n name told bytes (Err e) there read = tt
 
--- the files are the same where only the opened file differs
-weighed_at : (format : Format) (input : Instance) (file order_file : List ℕ) (w v : World) (value : ℤ) → OnlyOpens (Some w) (Some v) → input_named format w.files file ≡ Some (Ok input) → HasWeight input.weights order_file v value → IsWeighedOrder format file order_file w input value
-weighed_at format input file order_file w v value opens read has = record {
-  accepted_file = read;
-  order = has.order;
-  accepted_order = ap (λ (fs : List NamedFile). order_named input.weights.size fs order_file) (sym (same_files w v opens)) ∙ has.accepted_order;
-  value_is = has.value_is;
+-- what an order file is refused for
+pub refused_order : (n : ℕ) (name : List ℕ) (old : Option World) (e : OrderFileRefusal) → IfSome old (λ w. order_named n w.files name ≡ Some (Err e)) → IfSome old (λ w. RefusesFirst (order_named n w.files name) Order NoMore (Order e))
+refused_order n name None e read = tt
+refused_order n name (Some w) e read = subst (λ o. RefusesFirst o Order NoMore (Order e)) (sym read) refl
+
+-- why the order file wasn't read
+pub order_stop : (n : ℕ) (name : List ℕ) (old : Option World) (before now : ℕ) (s : Stop) → FileCause name old before now s → OrderStop n name old before now s
+order_stop n name old before now (stop.Refused refusal) cause = absurd cause
+order_stop n name old before now stop.Fault cause = cause
+order_stop n name old before now stop.Memory cause = tt
+
+-- both files accepted are all that `value` reads
+value_accepted : (format : Format) (file order_file : List ℕ) (input : Instance) (order : List ℕ) (files : List NamedFile) → input_named format files file ≡ Some (Ok input) → order_named input.weights.size files order_file ≡ Some (Ok order) → IsAccepted (Value format file order_file) files
+value_accepted format file order_file input order files read ordered = record {
+  unrefused = λ refusal refused.
+      let next = subst (λ o. RefusesFirst o Input (λ i. RefusesFirst (order_named i.weights.size files order_file) Order NoMore) refusal) read refused in
+      subst (λ o. RefusesFirst o Order NoMore refusal) ordered next;
+  unrejected = λ rejection wrong. wrong;
 }
 
-AnswersValue-named : (format : Format) (input : Instance) (file order_file : List ℕ) (old mid : Option World) (reply : Reply) → OnlyOpens old mid → IfSome old (λ w. input_named format w.files file ≡ Some (Ok input)) → WeighsNamed input order_file mid reply → AnswersValue format file order_file old reply
-AnswersValue-named format input file order_file None mid (Valued x) opens read weighs = tt
-AnswersValue-named format input file order_file (Some w) None (Valued x) opens read weighs = absurd cc
-AnswersValue-named format input file order_file (Some w) (Some v) (Valued x) opens read weighs =
-    subst (λ (i : Instance). IsWeighedOrder format file order_file w i x.value) (sym weighs.0) (weighed_at format input file order_file w v x.value opens read weighs.1)
-AnswersValue-named format input file order_file None mid (Refused (Order refusal)) opens read weighs = tt
-AnswersValue-named format input file order_file (Some w) None (Refused (Order refusal)) opens read weighs = absurd cc
-AnswersValue-named format input file order_file (Some w) (Some v) (Refused (Order refusal)) opens read weighs =
-    record { input = input; accepted_file = read; refused_order = ap (λ (fs : List NamedFile). order_named input.weights.size fs order_file) (sym (same_files w v opens)) ∙ weighs }
-AnswersValue-named format input file order_file old mid (Refused (Input refusal)) opens read weighs = absurd weighs
-AnswersValue-named format input file order_file old mid (Refused LongCertificate) opens read weighs = absurd weighs
-AnswersValue-named format input file order_file old mid (Refused Words) opens read weighs = absurd weighs
-AnswersValue-named format input file order_file old mid (Solved x) opens read weighs = absurd weighs
-AnswersValue-named format input file order_file old mid (Generated x) opens read weighs = absurd weighs
-AnswersValue-named format input file order_file old mid (Checked x) opens read weighs = absurd weighs
+value_done : (format : Format) (file order_file : List ℕ) (input : Instance) (old mid : Option World) (x : Valuation) → settled mid ≡ settled old → IfSome old (λ w. input_named format w.files file ≡ Some (Ok input)) → WeighsNamed input order_file mid x
+    → IsReply (files_of old) (Some (Value format file order_file)) (done_status true) (valuation_text x) None
+value_done format file order_file input old mid x same read weighs =
+    let told : IfSome (files_of old) (λ files. input_named format files file ≡ Some (Ok input)) = told_files (λ files. input_named format files file ≡ Some (Ok input)) old read in
+    let ordered : IfSome (files_of old) (λ files. order_named input.weights.size files order_file ≡ Some (Ok weighs.order)) = told_before (λ files. order_named input.weights.size files order_file ≡ Some (Ok weighs.order)) old mid same weighs.accepted_order in
+    let text : valuation_text x ≡ value_text input.weights input.profile (weight input.weights weighs.order) = ap (λ (i : Instance). value_text i.weights i.profile x.value) weighs.input_is ∙ ap (value_text input.weights input.profile) weighs.value_is in
+    done (told_both (λ files. input_named format files file ≡ Some (Ok input)) (λ files. order_named input.weights.size files order_file ≡ Some (Ok weighs.order)) (IsAccepted (Value format file order_file)) (files_of old) (value_accepted format file order_file input weighs.order) told ordered) (weighed (record {
+      input = input;
+      order = weighs.order;
+      accepted_file = told;
+      accepted_order = ordered;
+      is_order = weighs.is_order;
+      optimal_is = refl;
+      text_is = text;
+      left_is = refl;
+    }))
 
--- the same for an answer that may be none
-pub answers_value : {E : Type 0} (format : Format) (input : Instance) (file order_file : List ℕ) (old mid : Option World) (result : Result Reply E) → OnlyOpens old mid → IfSome old (λ w. input_named format w.files file ≡ Some (Ok input)) → IfOk result (WeighsNamed input order_file mid)
-    → IfOk result (AnswersValue format file order_file old)
-answers_value format input file order_file old mid (Ok reply) opens read weighs = AnswersValue-named format input file order_file old mid reply opens read weighs
-answers_value format input file order_file old mid (Err e) opens read weighs = weighs
+pub value_right : {E : Type 0} (format : Format) (file order_file : List ℕ) (input : Instance) (old mid : Option World) (r : Result Valuation E) → settled mid ≡ settled old → IfSome old (λ w. input_named format w.files file ≡ Some (Ok input)) → IfOk r (WeighsNamed input order_file mid)
+    → IfOk r (λ x. IsRight (files_of old) (Some (Value format file order_file)) (done_status true) (valuation_text x) NoFile)
+value_right format file order_file input old mid (Ok x) same read weighs = right_alone (files_of old) (Some (Value format file order_file)) (done_status true) (valuation_text x) (value_done format file order_file input old mid x same read weighs)
+value_right format file order_file input old mid (Err e) same read weighs = tt
+
+pub value_stops : (format : Format) (file order_file : List ℕ) (input : Instance) (old mid : Option World) (before between now : ℕ) (r : Result Valuation Stop) → settled mid ≡ settled old → before ≤ between → IfSome old (λ w. input_named format w.files file ≡ Some (Ok input)) → IfErr r (OrderStop input.weights.size order_file mid between now)
+    → IfErr r (StopCause (Value format file order_file) old before now)
+value_stops format file order_file input old mid before between now (Ok x) same later read cause = tt
+value_stops format file order_file input old mid before between now (Err (stop.Refused refusal)) same later read cause =
+    told_both (λ files. input_named format files file ≡ Some (Ok input)) (λ files. RefusesFirst (order_named input.weights.size files order_file) Order NoMore refusal)
+    (λ files. RefusesFirst (input_named format files file) Input (λ i. RefusesFirst (order_named i.weights.size files order_file) Order NoMore) refusal) (files_of old)
+    (λ files is refused. subst (λ o. RefusesFirst o Input (λ i. RefusesFirst (order_named i.weights.size files order_file) Order NoMore) refusal) (sym is) refused) (told_files (λ files. input_named format files file ≡ Some (Ok input)) old read)
+    (told_before (λ files. RefusesFirst (order_named input.weights.size files order_file) Order NoMore refusal) old mid same cause)
+value_stops format file order_file input old mid before between now (Err stop.Fault) same later read (inl missing) = inl (any_second (IsMissing old) file order_file [] (missing_before order_file old mid same missing))
+value_stops format file order_file input old mid before between now (Err stop.Fault) same later read (inr rose) = inr (rose_from before between now later rose)
+value_stops format file order_file input old mid before between now (Err stop.Memory) same later read cause = tt
+
+-- the promise of a `value` that was done
+pub weighs_of : (told : Option (List NamedFile)) (format : Format) (file order_file : List ℕ) (optimal : Bool) (text : List ℕ) (left : Option NamedFile) → IsDone told (Value format file order_file) optimal text left → Weighs format file order_file told optimal text left
+weighs_of told format file order_file optimal text left (weighed s) = s

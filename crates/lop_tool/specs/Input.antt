@@ -1,5 +1,5 @@
 -- What an input file means.
-use Rattle.std.specs.Prelude.{ℕ, ◌^◌, nat_lt, List, length, Option, None, Some, Result, Ok, Err, if◌then◌else◌}
+use Rattle.std.specs.Prelude.{◌≡◌, ℕ, ◌^◌, nat_lt, List, length, Option, None, Some, IfSome, Result, Ok, Err, if◌then◌else◌}
 use Rattle.lop_desk.specs.World.{NamedFile, file_named}
 use Rattle.lop_model.specs.Matrix.{Matrix}
 use Rattle.lop_lolib.specs.declared.lolib.LolibFile.{LolibFile}
@@ -7,8 +7,8 @@ use Rattle.lop_lolib.specs.declared.refusal.LolibRefusal.{LolibRefusal}
 use Rattle.lop_lolib.specs.Reading.{lolib_reading}
 use Rattle.lop_lolib.specs.declared.order.OrderRefusal.{OrderRefusal}
 use Rattle.lop_lolib.specs.OrderReading.{order_reading}
-use Rattle.lop_tool.specs.declared.reply.OrderFileRefusal.{OrderFileRefusal}
-use Rattle.lop_tool.specs.declared.reply.OrderFileRefusal.TheVariants.{TooLong as LongOrder, Order}
+use Rattle.lop_tool.specs.declared.refusal.OrderFileRefusal.{OrderFileRefusal}
+use Rattle.lop_tool.specs.declared.refusal.OrderFileRefusal.TheVariants.{TooLong as LongOrder, Order}
 use Rattle.lop_preflib.specs.Profile.{ProfileFields}
 use Rattle.lop_preflib.specs.declared.refusal.PrefRefusal.{PrefRefusal}
 use Rattle.lop_preflib.specs.Reading.{preflib_reading}
@@ -17,8 +17,8 @@ use Rattle.lop_profile.specs.Reading.{profile_reading}
 use Rattle.lop_words.specs.declared.command.Format.{Format}
 use Rattle.lop_words.specs.declared.command.Format.TheVariants as format
 use Rattle.lop_tool.specs.declared.input.Instance.{Instance}
-use Rattle.lop_tool.specs.declared.reply.InputRefusal.{InputRefusal}
-use Rattle.lop_tool.specs.declared.reply.InputRefusal.TheVariants.{TooLong, Lolib, Preflib, Profile}
+use Rattle.lop_tool.specs.declared.refusal.InputRefusal.{InputRefusal}
+use Rattle.lop_tool.specs.declared.refusal.InputRefusal.TheVariants.{TooLong, Lolib, Preflib, Profile}
 
 -- a matrix is an instance without a profile
 abbrev pub matrix_instance : Result LolibFile LolibRefusal → Result Instance InputRefusal
@@ -68,3 +68,7 @@ order_reading_of n (Some bytes) = Some (order_file_reading n bytes)
 -- the order under a name; none where no file has the name
 abbrev pub order_named : ℕ → List NamedFile → List ℕ → Option (Result (List ℕ) OrderFileRefusal)
 order_named n files name = order_reading_of n (file_named files name)
+
+-- a profile's objects are those of the weights
+abbrev pub IsOfSize : ℕ → Option ProfileFields → Type 0
+IsOfSize n profile = IfSome profile (λ p. p.size ≡ n)

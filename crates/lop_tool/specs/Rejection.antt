@@ -1,6 +1,8 @@
 -- The line of a rejected certificate, as bytes.
 use Rattle.std.specs.Prelude.{ℕ, List, ◌++◌, codes, decimal, ℤ}
 use Rattle.std.specs.Fmt.{signed_decimal}
+use Rattle.lop_tool.specs.declared.rejection.Rejection.{Rejection}
+use Rattle.lop_tool.specs.declared.rejection.Rejection.TheVariants.{Certificate}
 use Rattle.lop_certtext.specs.declared.reason.Reason.{Reason}
 use Rattle.lop_certtext.specs.declared.reason.Reason.TheVariants.{Short, Spelling, Size, OrderLine, Value, Cut, SplitLine, Leaf, High, Tail}
 
@@ -20,6 +22,9 @@ reason_text Leaf = codes "leaf"
 reason_text (High upper limit) = two_numbers (codes "high ") upper limit
 reason_text Tail = codes "tail"
 
--- the answer of `check` to a certificate that it rejects
 abbrev pub rejected_line : ℕ → Reason → List ℕ
 rejected_line line reason = codes "rejected line " ++ decimal line ++ codes " " ++ reason_text reason ++ codes "\n"
+
+-- what is printed where a certificate is rejected
+abbrev pub rejection_line : Rejection → List ℕ
+rejection_line (Certificate line reason) = rejected_line line reason

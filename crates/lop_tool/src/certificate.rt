@@ -2,11 +2,11 @@
 ghost use Rattle.std.specs.Prelude.{◌≡◌, ◌≤◌, MatchResult, IfOk, IfErr};
 ghost use Rattle.lop_desk.specs.Causes.{HasCause};
 ghost use Rattle.lop_desk.specs.Desk.{IsMaking};
-ghost use Rattle.lop_tool.specs.Run.{settled};
-ghost use Rattle.lop_tool.specs.Keeping.{HasBegunNamed, WritesCertificate};
-ghost use Rattle.lop_tool.specs.Stops.{FaultCause};
+ghost use Rattle.lop_tool.specs.Told.{settled, LeavesAll};
+ghost use Rattle.lop_tool.specs.Certificate.{HasBegun, WritesCertificate, LeavesCertificate};
+ghost use Rattle.lop_tool.specs.Ended.{LeavesFile, BeginCause};
 
-use crate::reply::Stop;
+use crate::stop::Stop;
 use lop_certwrite::write_certificate;
 use lop_core::Core;
 use lop_desk::{Desk, DeskFailed, OpenFault, TextRoom};
@@ -14,10 +14,10 @@ use lop_words::NameWord;
 
 /// Begins the file under the name, if there is one.
 pub fn begin_certificate<D: Desk>(cert: &Option<NameWord>, desk: &mut D) -> Result<(), Stop>
-    ensures begun { IfOk result (λ _. HasBegunNamed cert.now (D.told desk.new)) }
+    ensures begun { IfOk result (λ _. HasBegun cert.now (D.told desk.new)) }
     ensures files { settled (D.told desk.new) ≡ settled (D.told desk.old) }
     ensures later { D.faults desk.old ≤ D.faults desk.new }
-    ensures cause { IfErr result (FaultCause (D.faults desk.old) (D.faults desk.new)) }
+    ensures cause { IfErr result (BeginCause (D.faults desk.old) (D.faults desk.new)) }
 {
     let Some(name) = cert else {
         return Ok(());
@@ -29,14 +29,31 @@ pub fn begin_certificate<D: Desk>(cert: &Option<NameWord>, desk: &mut D) -> Resu
     }
 }
 
-/// Writes the certificate of a core into the file that was begun, and finishes it. After an Err the files are as before.
+/// Writes the certificate of a core into the file that was begun, if one is named, and finishes it. After an Err the files
+/// are as before.
 pub fn leave_certificate<D: Desk>(
+    cert: &Option<NameWord>,
+    core: &Core,
+    desk: &mut D,
+    room: &mut TextRoom,
+) -> Result<(), DeskFailed>
+    requires { HasBegun cert.now (D.told desk.old) }
+    ensures effect { LeavesFile (LeavesCertificate cert.now core.now) (D.told desk.old) (D.told desk.new) result }
+    ensures cause { HasCause (D.faults desk.old) (D.faults desk.new) result }
+{
+    match cert {
+        Some(_) => finish_certificate(core, desk, room),
+        None => Ok(()),
+    }
+}
+
+fn finish_certificate<D: Desk>(
     core: &Core,
     desk: &mut D,
     room: &mut TextRoom,
 ) -> Result<(), DeskFailed>
     requires { IsMaking (D.told desk.old) }
-    ensures effect { MatchResult result (λ _. WritesCertificate core.now (D.told desk.old) (D.told desk.new)) (λ _. settled (D.told desk.new) ≡ settled (D.told desk.old)) }
+    ensures effect { MatchResult result (λ _. WritesCertificate core.now (D.told desk.old) (D.told desk.new)) (λ _. LeavesAll (D.told desk.old) (D.told desk.new)) }
     ensures cause { HasCause (D.faults desk.old) (D.faults desk.new) result }
 {
     write_certificate(core, desk, room)?;

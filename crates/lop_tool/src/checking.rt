@@ -1,80 +1,154 @@
-// What `check` replies.
-ghost use Rattle.std.specs.Prelude.{◌≡◌, ◌≤◌, ◌⊎◌, Option, IfOk, IfErr, IfSome, Some};
+// The command `check`.
+ghost use Rattle.std.specs.Prelude.{◌≡◌, ◌≤◌, Some, IfOk, IfErr};
+ghost use Rattle.lop_desk.specs.Desk.{IsOpen};
 ghost use Rattle.lop_desk.specs.Whole.{OnlyOpens};
 ghost use Rattle.lop_words.specs.declared.command.Command.TheVariants.{Check};
-ghost use Rattle.lop_tool.specs.Reply.{IsPrintable};
-ghost use Rattle.lop_tool.specs.Run.{AnswersCheck, StopCause};
-ghost use Rattle.lop_tool.specs.CheckSteps.{ChecksNamed, ChecksBytes};
-ghost use Rattle.lop_desk.specs.Desk.{IsOpen};
-ghost use Rattle.lop_tool.specs.Stops.{InputCause, FaultCause};
+ghost use Rattle.lop_tool.specs.Status.{number};
+ghost use Rattle.lop_tool.specs.Told.{files_of};
+ghost use Rattle.lop_tool.specs.Check.{answer_of, outcome_text, outcome_status, IsBounded, AnswersRest, RestStop, AnswersNamed, NamedStop};
+ghost use Rattle.lop_tool.specs.Reply.{IsRight};
+ghost use Rattle.lop_tool.specs.Ended.{Ended, StopCause, NoFile};
 
 use crate::input::{Instance, read_input};
-use crate::reply::{CheckedCertificate, Outcome, Refusal, Reply, Stop};
+use crate::refusal::Refusal;
+use crate::rejection::Rejection;
+use crate::reply::{Reply, deliver, halt};
+use crate::status::{Status, done_status};
+use crate::stop::Stop;
 use lop_check::{CheckRoom, Verdict};
-use lop_desk::{Desk, OpenFault};
+use lop_desk::{Desk, DeskFailed, OpenFault, TextRoom};
+use lop_model::Weights;
+use lop_report::print_accepted;
 use lop_words::Format;
 use std::alloc::Global;
 
-/// The reply to `check` of a certificate against the named file.
+/// What a certificate comes to.
+#[derive(Clone, Copy)]
+pub enum Outcome {
+    Accepted { value: i64, bound: i64 },
+    Rejected(Rejection),
+}
+
+impl Reply for Outcome {
+    ghost use Rattle.std.specs.Prelude.{⊤};
+    ghost use Rattle.lop_tool.specs.Check.{outcome_text, outcome_status};
+    ghost use Rattle.lop_tool.specs.Ended.{NoFile};
+
+    ghost text = { outcome_text };
+
+    ghost status = { outcome_status };
+
+    ghost leaves = { λ _. NoFile };
+
+    ghost begun = { λ _ _. ⊤ };
+
+    ghost printable = { λ _. ⊤ };
+
+    fn status(&self) -> Status {
+        match self {
+            Outcome::Accepted { value, bound } => done_status(
+                i128::from(*value),
+                i128::from(*bound),
+            ),
+            Outcome::Rejected(_) => Status::Rejected,
+        }
+    }
+
+    fn leave_file<D: Desk>(&self, _desk: &mut D, _room: &mut TextRoom) -> Result<(), DeskFailed> {
+        Ok(())
+    }
+
+    fn print<D: Desk>(&self, desk: &mut D, room: &mut TextRoom) -> Result<(), DeskFailed> {
+        match self {
+            Outcome::Accepted { value, bound } => {
+                print_accepted(i128::from(*value), i128::from(*bound), desk, room)
+            }
+            Outcome::Rejected(rejection) => rejection.print(desk, room),
+        }
+    }
+}
+
+/// Checks the certificate in the one file against the other.
 pub fn check<D: Desk>(
     alloc: Global,
     format: Format,
     file: &str,
     cert: &str,
     desk: &mut D,
-) -> Result<Reply, Stop>
+    room: &mut TextRoom,
+) -> Status
+    ensures later { D.faults desk.old ≤ D.faults desk.new }
+    ensures ended { Ended (Some (Check format file.now cert.now)) (D.told desk.old) (D.told desk.new) (D.faults desk.old) (D.faults desk.new) (number result) }
+{
+    match check_file(alloc, format, file, cert, desk) {
+        Ok(outcome) => deliver(&outcome, desk, room),
+        Err(stop) => halt(stop, desk, room),
+    }
+}
+
+fn check_file<D: Desk>(
+    alloc: Global,
+    format: Format,
+    file: &str,
+    cert: &str,
+    desk: &mut D,
+) -> Result<Outcome, Stop>
     ensures world { OnlyOpens (D.told desk.old) (D.told desk.new) }
     ensures later { D.faults desk.old ≤ D.faults desk.new }
-    ensures reply { IfOk result (AnswersCheck format file.now cert.now (D.told desk.old)) }
-    ensures printable { IfOk result IsPrintable }
-    ensures stop { IfErr result (StopCause (Some (Check format file.now cert.now)) (D.told desk.old) (D.faults desk.old) (D.faults desk.new)) }
+    ensures right { IfOk result (λ x. IsRight (files_of (D.told desk.old)) (Some (Check format file.now cert.now)) (outcome_status x) (outcome_text x) NoFile) }
+    ensures stop { IfErr result (StopCause (Check format file.now cert.now) (D.told desk.old) (D.faults desk.old) (D.faults desk.new)) }
 {
     match read_input(alloc, format, file, desk) {
-        Ok(Ok(input)) => check_instance(alloc, input, cert, desk),
-        Ok(Err(refusal)) => Ok(Reply::Refused(Refusal::Input(refusal))),
+        Ok(Ok(input)) => check_named(alloc, &input.weights, cert, desk),
+        Ok(Err(refusal)) => Err(Stop::Refused(Refusal::Input(refusal))),
         Err(stop) => Err(stop),
     }
 }
 
 // The certificate is opened and checked.
-fn check_instance<D: Desk>(
+fn check_named<D: Desk>(
     alloc: Global,
-    input: Instance,
+    weights: &Weights,
     cert: &str,
     desk: &mut D,
-) -> Result<Reply, Stop>
+) -> Result<Outcome, Stop>
     ensures world { OnlyOpens (D.told desk.old) (D.told desk.new) }
     ensures later { D.faults desk.old ≤ D.faults desk.new }
-    ensures reply { IfOk result (ChecksNamed input cert.now (D.told desk.old)) }
-    ensures printable { IfOk result IsPrintable }
-    ensures stop { IfErr result (InputCause cert.now (D.told desk.old) (D.faults desk.old) (D.faults desk.new)) }
+    ensures answer { IfOk result (λ x. AnswersNamed weights.now cert.now (D.told desk.old) (answer_of x)) }
+    ensures bounded { IfOk result (IsBounded weights.now) }
+    ensures stop { IfErr result (NamedStop weights.now cert.now (D.told desk.old) (D.faults desk.old) (D.faults desk.new)) }
 {
-    let Ok(mut room) = CheckRoom::new(alloc, input.weights.n()) else {
+    let Ok(mut room) = CheckRoom::new(alloc, weights.n()) else {
         return Err(Stop::Memory);
     };
     match desk.open_file(cert) {
-        Ok(()) => check_opened(input, desk, &mut room),
+        Ok(()) => check_opened(weights, desk, &mut room),
         Err(OpenFault::Memory) => Err(Stop::Memory),
         Err(OpenFault::Failed | OpenFault::Missing) => Err(Stop::Fault),
     }
 }
 
 // The certificate stands open at its beginning.
-fn check_opened<D: Desk>(input: Instance, desk: &mut D, room: &mut CheckRoom) -> Result<Reply, Stop>
-    requires same_n { room.old.size ≡ input.weights.size }
+fn check_opened<D: Desk>(
+    weights: &Weights,
+    desk: &mut D,
+    room: &mut CheckRoom,
+) -> Result<Outcome, Stop>
+    requires same_n { room.old ≡ weights.now.size }
     requires opened { IsOpen (D.told desk.old) }
     ensures world { OnlyOpens (D.told desk.old) (D.told desk.new) }
     ensures later { D.faults desk.old ≤ D.faults desk.new }
-    ensures reply { IfOk result (ChecksBytes input (D.told desk.old)) }
-    ensures printable { IfOk result IsPrintable }
-    ensures stop { IfErr result (FaultCause (D.faults desk.old) (D.faults desk.new)) }
+    ensures answer { IfOk result (λ x. AnswersRest weights.now (D.told desk.old) (answer_of x)) }
+    ensures bounded { IfOk result (IsBounded weights.now) }
+    ensures stop { IfErr result (RestStop weights.now (D.told desk.old) (D.faults desk.old) (D.faults desk.new)) }
 {
-    let outcome = match lop_check::check(&input.weights, desk, room) {
-        Verdict::Accepted { value, bound } => Outcome::Accepted { value, bound },
-        Verdict::Rejected { line, reason } => Outcome::Rejected { line, reason },
-        Verdict::TooLong => return Ok(Reply::Refused(Refusal::LongCertificate)),
-        Verdict::Failed => return Err(Stop::Fault),
-        Verdict::Memory => return Err(Stop::Memory),
-    };
-    Ok(Reply::Checked(CheckedCertificate { input, outcome }))
+    match lop_check::check(weights, desk, room) {
+        Verdict::Accepted { value, bound } => Ok(Outcome::Accepted { value, bound }),
+        Verdict::Rejected { line, reason } => {
+            Ok(Outcome::Rejected(Rejection::Certificate { line, reason }))
+        }
+        Verdict::TooLong => Err(Stop::Refused(Refusal::LongCertificate)),
+        Verdict::Failed => Err(Stop::Fault),
+        Verdict::Memory => Err(Stop::Memory),
+    }
 }

@@ -1,32 +1,84 @@
-// What `gen` replies.
-ghost use Rattle.std.specs.Prelude.{◌≡◌, ◌≤◌, IfOk, IfErr};
+// The command `gen`.
+ghost use Rattle.std.specs.Prelude.{◌≡◌, ◌≤◌, Some, IfOk};
 ghost use Rattle.lop_gen.specs.Text.{HasNarrowDiagonal};
-ghost use Rattle.lop_tool.specs.declared.reply.Stop.TheVariants.{Memory};
-ghost use Rattle.lop_tool.specs.Reply.{IsPrintable};
-ghost use Rattle.lop_tool.specs.Run.{AnswersGen};
-ghost use Rattle.lop_tool.specs.declared.reply.Reply.TheVariants as Reply;
+ghost use Rattle.lop_words.specs.declared.command.Command.TheVariants.{Gen};
+ghost use Rattle.lop_tool.specs.Status.{number};
+ghost use Rattle.lop_tool.specs.Gen.{IsGenerated, generation_text, generation_optimal};
+ghost use Rattle.lop_tool.specs.Ended.{Ended, NoFile};
 
-use crate::reply::{Generation, Reply, Stop};
-use crate::solve::searched;
+use crate::reply::{Reply, deliver};
+use crate::search::Search;
+use crate::solve::answer_of;
+use crate::status::{Status, done_status};
+use lop_core::Core;
+use lop_desk::{Desk, DeskFailed, TextRoom};
 use lop_gen::{generate, lolib_text};
 use lop_lolib::{LolibRefusal, read_lolib};
 use lop_model::Weights;
+use lop_report::print_generated;
 use std::alloc::{AllocError, Global};
 
 /// How many nodes a search on generated weights evaluates at most.
 const BUDGET: u32 = 10;
 
-/// The reply to `gen` of n objects with the seed.
-pub fn generated(alloc: Global, seed: u64, n: u16) -> Result<Reply, Stop>
+/// The search of the weights that a seed gives.
+#[derive(Drop)]
+pub struct Generation {
+    pub seed: u64,
+    pub core: Core,
+}
+
+impl Reply for Generation {
+    ghost use Rattle.std.specs.Prelude.{⊤};
+    ghost use Rattle.lop_tool.specs.Status.{done_status};
+    ghost use Rattle.lop_tool.specs.Gen.{generation_text, generation_optimal};
+    ghost use Rattle.lop_tool.specs.Ended.{NoFile};
+
+    ghost text = { generation_text };
+
+    ghost status = { λ x. done_status (generation_optimal x) };
+
+    ghost leaves = { λ _. NoFile };
+
+    ghost begun = { λ _ _. ⊤ };
+
+    ghost printable = { λ _. ⊤ };
+
+    fn status(&self) -> Status {
+        done_status(self.core.best(), self.core.bound())
+    }
+
+    fn leave_file<D: Desk>(&self, _desk: &mut D, _room: &mut TextRoom) -> Result<(), DeskFailed> {
+        Ok(())
+    }
+
+    fn print<D: Desk>(&self, desk: &mut D, room: &mut TextRoom) -> Result<(), DeskFailed> {
+        print_generated(
+            self.seed,
+            &answer_of(&self.core),
+            self.core.weights(),
+            desk,
+            room,
+        )
+    }
+}
+
+/// Solves the weights of n objects that the seed gives.
+pub fn generated<D: Desk>(
+    alloc: Global,
+    seed: u64,
+    n: u16,
+    desk: &mut D,
+    room: &mut TextRoom,
+) -> Status
     requires positive { 1 ≤ n }
     requires within_limit { n ≤ 512 }
-    ensures reply { IfOk result (AnswersGen seed n) }
-    ensures printable { IfOk result IsPrintable }
-    ensures stop { IfErr result (λ stop. stop ≡ Memory) }
+    ensures later { D.faults desk.old ≤ D.faults desk.new }
+    ensures ended { Ended (Some (Gen seed n)) (D.told desk.old) (D.told desk.new) (D.faults desk.old) (D.faults desk.new) (number result) }
 {
     match search_generated(alloc, seed, n) {
-        Ok(generation) => Ok(Reply::Generated(generation)),
-        Err(AllocError) => Err(Stop::Memory),
+        Ok(generation) => deliver(&generation, desk, room),
+        Err(AllocError) => Status::Memory,
     }
 }
 
@@ -34,13 +86,14 @@ pub fn generated(alloc: Global, seed: u64, n: u16) -> Result<Reply, Stop>
 fn search_generated(alloc: Global, seed: u64, n: u16) -> Result<Generation, AllocError>
     requires positive { 1 ≤ n }
     requires within_limit { n ≤ 512 }
-    ensures { IfOk result (λ x. AnswersGen seed n (Reply.Generated x)) }
+    ensures { IfOk result (IsGenerated seed n) }
 {
     let weights = generate(alloc, seed, n)?;
     let weights = read_back(alloc, &weights)?;
+    let search = Search::prepare(alloc, &weights, BUDGET)?;
     Ok(Generation {
         seed,
-        core: searched(alloc, &weights, BUDGET)?,
+        core: search.run(),
     })
 }
 

@@ -5,12 +5,12 @@ ghost use Rattle.lop_model.specs.Order.{IsOrder};
 ghost use Rattle.lop_lolib.specs.Reading.{lolib_reading};
 ghost use Rattle.lop_preflib.specs.Reading.{preflib_reading};
 ghost use Rattle.lop_profile.specs.Reading.{profile_reading};
-ghost use Rattle.lop_tool.specs.Input.{matrix_instance, profile_instance, weighed_instance, input_reading, input_named, order_file_reading, order_named};
-ghost use Rattle.lop_tool.specs.Reply.{IsOfSize};
-ghost use Rattle.lop_tool.specs.Stops.{InputCause};
-ghost use Rattle.lop_tool.specs.declared.reply.Stop.TheVariants.{Memory};
+ghost use Rattle.lop_tool.specs.Input.{matrix_instance, profile_instance, weighed_instance, input_reading, input_named, order_file_reading, order_named, IsOfSize};
+ghost use Rattle.lop_tool.specs.Ended.{FileCause};
+ghost use Rattle.lop_tool.specs.declared.stop.Stop.TheVariants.{Memory};
 
-use crate::reply::{InputRefusal, OrderFileRefusal, Stop};
+use crate::refusal::{InputRefusal, OrderFileRefusal};
+use crate::stop::Stop;
 use lop_desk::{Desk, ReadStop, read_whole};
 use lop_lolib::{LolibRefusal, OrderRefusal, read_lolib, read_order};
 use lop_model::{Order, Weights};
@@ -42,7 +42,7 @@ pub fn read_input<D: Desk>(
     ensures later { D.faults desk.old ≤ D.faults desk.new }
     ensures input { IfOk result (λ input. IfSome (D.told desk.old) (λ w. input_named format w.files file.now ≡ Some input)) }
     ensures of_size { IfOk result (λ input. IfOk input (λ x. IsOfSize x.weights.size x.profile)) }
-    ensures stop { IfErr result (InputCause file.now (D.told desk.old) (D.faults desk.old) (D.faults desk.new)) }
+    ensures stop { IfErr result (FileCause file.now (D.told desk.old) (D.faults desk.old) (D.faults desk.new)) }
 {
     match read_whole(alloc, desk, file, INPUT_LIMIT) {
         Ok(bytes) => instance_in(alloc, format, &bytes),
@@ -122,7 +122,7 @@ pub fn read_order_file<D: Desk>(
     ensures later { D.faults desk.old ≤ D.faults desk.new }
     ensures input { IfOk result (λ input. IfSome (D.told desk.old) (λ w. order_named n w.files file.now ≡ Some input)) }
     ensures order { IfOk result (λ input. IfOk input (IsOrder n)) }
-    ensures stop { IfErr result (InputCause file.now (D.told desk.old) (D.faults desk.old) (D.faults desk.new)) }
+    ensures stop { IfErr result (FileCause file.now (D.told desk.old) (D.faults desk.old) (D.faults desk.new)) }
 {
     match read_whole(alloc, desk, file, INPUT_LIMIT) {
         Ok(bytes) => order_in(alloc, &bytes, n),

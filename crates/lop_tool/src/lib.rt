@@ -1,22 +1,23 @@
 //! The one call that the program makes, and its promises.
 #![tactic(auto)]
 
-mod both;
 mod certificate;
 mod checking;
-mod deliver;
+mod dispatch;
 mod generation;
 mod input;
-mod refused;
+mod refusal;
 mod rejection;
 mod reply;
+mod round_trip;
 mod search;
 mod solve;
-mod top;
+mod status;
+mod stop;
 mod weighing;
 
-pub use both::solve_then_check;
-pub use top::run;
+pub use dispatch::run;
+pub use round_trip::solve_then_check;
 
 #[cfg(test)]
 mod tests;

@@ -1,15 +1,33 @@
-// The line of a rejected certificate.
+// Why a certificate is rejected, and the line of that.
 ghost use Rattle.std.specs.Prelude.{◌≡◌, ◌≤◌, ◌+◌, ◌++◌, length};
 ghost use Rattle.lop_desk.specs.Whole.{PrintsAll};
 ghost use Rattle.lop_desk.specs.Causes.{HasCause};
-ghost use Rattle.lop_tool.specs.Rejection.{rejected_line, reason_text, two_numbers};
+ghost use Rattle.lop_tool.specs.Rejection.{rejection_line, rejected_line, reason_text, two_numbers};
 
 use itoa::Buffer;
 use lop_check::Reason;
 use lop_desk::{Desk, DeskFailed, TextRoom, print_all};
 
-/// Prints the line and the reason of a rejection.
-pub fn print_rejected<D: Desk>(
+/// Why a certificate is rejected.
+#[derive(Clone, Copy)]
+pub enum Rejection {
+    /// By the checker, at a line.
+    Certificate { line: u64, reason: Reason },
+}
+
+impl Rejection {
+    /// Prints the line of the rejection.
+    pub fn print<D: Desk>(self, desk: &mut D, room: &mut TextRoom) -> Result<(), DeskFailed>
+        ensures effect { PrintsAll (D.told desk.old) (D.told desk.new) (rejection_line self) result }
+        ensures cause { HasCause (D.faults desk.old) (D.faults desk.new) result }
+    {
+        match self {
+            Rejection::Certificate { line, reason } => print_rejected(line, reason, desk, room),
+        }
+    }
+}
+
+fn print_rejected<D: Desk>(
     line: u64,
     reason: Reason,
     desk: &mut D,

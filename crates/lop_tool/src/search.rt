@@ -6,7 +6,7 @@ ghost use Rattle.lop_climb.specs.StartOrder.{IsBeckerOrder};
 ghost use Rattle.lop_core.specs.Tree.{out_count};
 ghost use Rattle.lop_core.specs.Core.{HasHistory};
 ghost use Rattle.lop_core.specs.Outcome.{IsFinished};
-ghost use Rattle.lop_tool.specs.Reply.{IsPrepared, IsSolved};
+ghost use Rattle.lop_tool.specs.Search.{found_of, IsClimbed, IsSearchOf, IsPrepared};
 
 use lop_climb::{ClimbRoom, climb, start_order};
 use lop_core::{Core, TakeReply};
@@ -94,7 +94,7 @@ impl Model for Search {
     ghost use Rattle.std.specs.Prelude.{◌≡◌};
     ghost use Rattle.lop_core.specs.Core.{CoreFields, HasHistory};
     ghost use Rattle.lop_core.specs.Tree.{out_count};
-    ghost use Rattle.lop_tool.specs.Reply.{IsPrepared};
+    ghost use Rattle.lop_tool.specs.Search.{IsPrepared};
 
     ghost Value = { CoreFields };
 
@@ -123,8 +123,7 @@ impl Search {
 
     /// Searches until no node is live or the budget is spent. It takes no memory.
     pub fn run(self) -> Core
-        ensures weights { result.problem.weights ≡ self.problem.weights }
-        ensures solved { IsSolved self.problem.budget result }
+        ensures search { IsSearchOf self.problem.weights self.problem.budget (found_of result) result }
     {
         let Search {
             mut core,
@@ -140,7 +139,8 @@ fn first_order(weights: &Weights, room: &mut ClimbRoom)
     requires { length room.old ≡ weights.now.size }
     ensures order { IsOrder weights.now.size room.new }
     ensures from_start { (t : List ℕ) → IsBeckerOrder weights.now t → weight weights.now t ≤ℤ weight weights.now room.new }
+    ensures climbed { IsClimbed weights.now (weight weights.now room.new) }
 {
     start_order(weights, room);
-    let _ = climb(weights, room);
+    let _climbed = climb(weights, room);
 }

@@ -1,43 +1,128 @@
-// What `solve` replies.
-ghost use Rattle.std.specs.Prelude.{◌≡◌, ◌≤◌, IfOk, IfErr};
-ghost use Rattle.lop_tool.specs.Reply.{IsSolved, IsOfSize, IsPrintable};
-ghost use Rattle.lop_tool.specs.Run.{settled, AnswersSolve};
-ghost use Rattle.lop_tool.specs.SolveSteps.{SolvesInstance};
-ghost use Rattle.lop_tool.specs.Stops.{InputCause, FaultCause};
-ghost use Rattle.lop_tool.specs.Keeping.{IsBegun};
+// The command `solve`.
+ghost use Rattle.std.specs.Prelude.{◌≡◌, ◌≤◌, Some, IfOk, IfErr};
+ghost use Rattle.lop_desk.specs.Whole.{PrintsAll};
+ghost use Rattle.lop_words.specs.declared.command.Command.TheVariants.{Solve};
+ghost use Rattle.lop_core.specs.Machine.{state_bound};
+ghost use Rattle.lop_tool.specs.Status.{number, done_status};
+ghost use Rattle.lop_tool.specs.Told.{files_of, settled};
+ghost use Rattle.lop_tool.specs.Input.{IsOfSize};
+ghost use Rattle.lop_tool.specs.Certificate.{HasBegun, LeavesCertificate};
+ghost use Rattle.lop_tool.specs.Solve.{SolvesInstance, IsPrintable, solution_text, solution_optimal};
+ghost use Rattle.lop_tool.specs.Reply.{IsRight};
+ghost use Rattle.lop_tool.specs.Ended.{Ended, StopCause, BeginCause};
 
-use crate::certificate::begin_certificate;
+use crate::certificate::{begin_certificate, leave_certificate};
 use crate::input::{Instance, read_input};
-use crate::reply::{Refusal, Reply, Solution, Stop};
+use crate::refusal::Refusal;
+use crate::reply::{Reply, deliver, halt};
 use crate::search::Search;
+use crate::status::{Status, done_status};
+use crate::stop::Stop;
 use lop_core::Core;
-use lop_desk::Desk;
-use lop_model::Weights;
+use lop_desk::{Desk, DeskFailed, TextRoom};
+use lop_report::{Answer, print_answer};
 use lop_words::{Format, NameWord};
 use std::alloc::{AllocError, Global};
 
-/// The reply to `solve` of the named file, with so many nodes to evaluate at most. Where there is the name of a
-/// certificate, its file is begun before the search.
+/// The search of an instance's weights.
+#[derive(Drop)]
+pub struct Solution {
+    pub input: Instance,
+    pub core: Core,
+    /// The name under which the certificate is left, if one is given.
+    pub cert: Option<NameWord>,
+}
+
+impl Reply for Solution {
+    ghost use Rattle.lop_tool.specs.Status.{done_status};
+    ghost use Rattle.lop_tool.specs.Certificate.{HasBegun, LeavesCertificate};
+    ghost use Rattle.lop_tool.specs.Solve.{IsPrintable, solution_text, solution_optimal};
+
+    ghost text = { solution_text };
+
+    ghost status = { λ x. done_status (solution_optimal x) };
+
+    ghost leaves = { λ x. LeavesCertificate x.cert x.core };
+
+    ghost begun = { λ x told. HasBegun x.cert told };
+
+    ghost printable = { IsPrintable };
+
+    fn status(&self) -> Status {
+        done_status(self.core.best(), self.core.bound())
+    }
+
+    fn leave_file<D: Desk>(&self, desk: &mut D, room: &mut TextRoom) -> Result<(), DeskFailed> {
+        leave_certificate(&self.cert, &self.core, desk, room)
+    }
+
+    fn print<D: Desk>(&self, desk: &mut D, room: &mut TextRoom) -> Result<(), DeskFailed> {
+        print_answer(
+            &answer_of(&self.core),
+            self.core.best_order(),
+            &self.input.weights,
+            self.input.profile.as_ref(),
+            desk,
+            room,
+        )
+    }
+}
+
+/// The numbers of a search. O(the number of nodes).
+pub fn answer_of(core: &Core) -> Answer
+    ensures value { result.value ≡ core.now.state.best }
+    ensures bound { result.bound ≡ state_bound core.now.state }
+    ensures nodes { result.nodes ≡ core.now.state.evaluated }
+{
+    Answer {
+        value: core.best(),
+        bound: core.bound(),
+        nodes: core.evaluated(),
+    }
+}
+
+/// Solves the named file, with so many nodes to evaluate at most. Where there is the name of a certificate, its file is
+/// begun before the search.
 pub fn solve<D: Desk>(
     alloc: Global,
     format: Format,
     file: &str,
     nodes: u32,
-    cert: &Option<NameWord>,
+    cert: Option<NameWord>,
     desk: &mut D,
-) -> Result<Reply, Stop>
+    room: &mut TextRoom,
+) -> Status
+    requires positive { 1 ≤ nodes }
+    requires within_limit { nodes ≤ 1000000 }
+    ensures later { D.faults desk.old ≤ D.faults desk.new }
+    ensures ended { Ended (Some (Solve format file.now nodes cert)) (D.told desk.old) (D.told desk.new) (D.faults desk.old) (D.faults desk.new) (number result) }
+{
+    match solve_file(alloc, format, file, nodes, cert, desk) {
+        Ok(solution) => deliver(&solution, desk, room),
+        Err(stop) => halt(stop, desk, room),
+    }
+}
+
+fn solve_file<D: Desk>(
+    alloc: Global,
+    format: Format,
+    file: &str,
+    nodes: u32,
+    cert: Option<NameWord>,
+    desk: &mut D,
+) -> Result<Solution, Stop>
     requires positive { 1 ≤ nodes }
     requires within_limit { nodes ≤ 1000000 }
     ensures world { settled (D.told desk.new) ≡ settled (D.told desk.old) }
     ensures later { D.faults desk.old ≤ D.faults desk.new }
-    ensures reply { IfOk result (AnswersSolve format file.now nodes (D.told desk.old)) }
+    ensures right { IfOk result (λ x. IsRight (files_of (D.told desk.old)) (Some (Solve format file.now nodes cert)) (done_status (solution_optimal x)) (solution_text x) (LeavesCertificate x.cert x.core)) }
     ensures printable { IfOk result IsPrintable }
-    ensures begun { IfOk result (λ reply. IsBegun cert.now reply (D.told desk.new)) }
-    ensures stop { IfErr result (InputCause file.now (D.told desk.old) (D.faults desk.old) (D.faults desk.new)) }
+    ensures begun { IfOk result (λ x. HasBegun x.cert (D.told desk.new)) }
+    ensures stop { IfErr result (StopCause (Solve format file.now nodes cert) (D.told desk.old) (D.faults desk.old) (D.faults desk.new)) }
 {
     match read_input(alloc, format, file, desk) {
         Ok(Ok(input)) => solve_instance(alloc, input, nodes, cert, desk),
-        Ok(Err(refusal)) => Ok(Reply::Refused(Refusal::Input(refusal))),
+        Ok(Err(refusal)) => Err(Stop::Refused(Refusal::Input(refusal))),
         Err(stop) => Err(stop),
     }
 }
@@ -46,38 +131,28 @@ fn solve_instance<D: Desk>(
     alloc: Global,
     input: Instance,
     nodes: u32,
-    cert: &Option<NameWord>,
+    cert: Option<NameWord>,
     desk: &mut D,
-) -> Result<Reply, Stop>
+) -> Result<Solution, Stop>
     requires positive { 1 ≤ nodes }
     requires within_limit { nodes ≤ 1000000 }
     requires of_size { IsOfSize input.weights.size input.profile }
     ensures world { settled (D.told desk.new) ≡ settled (D.told desk.old) }
     ensures later { D.faults desk.old ≤ D.faults desk.new }
-    ensures solved { IfOk result (SolvesInstance input nodes) }
+    ensures solves { IfOk result (SolvesInstance input nodes cert) }
     ensures printable { IfOk result IsPrintable }
-    ensures begun { IfOk result (λ reply. IsBegun cert.now reply (D.told desk.new)) }
-    ensures stop { IfErr result (FaultCause (D.faults desk.old) (D.faults desk.new)) }
+    ensures begun { IfOk result (λ x. HasBegun x.cert (D.told desk.new)) }
+    ensures stop { IfErr result (BeginCause (D.faults desk.old) (D.faults desk.new)) }
 {
     match Search::prepare(alloc, &input.weights, nodes) {
-        Ok(search) => match begin_certificate(cert, desk) {
-            Ok(()) => Ok(Reply::Solved(Solution {
+        Ok(search) => match begin_certificate(&cert, desk) {
+            Ok(()) => Ok(Solution {
+                input,
                 core: search.run(),
-                profile: input.profile,
-            })),
+                cert,
+            }),
             Err(stop) => Err(stop),
         },
         Err(AllocError) => Err(Stop::Memory),
     }
-}
-
-/// The search of the weights that begins with a climb from the start order and evaluates so many nodes at most.
-pub fn searched(alloc: Global, weights: &Weights, nodes: u32) -> Result<Core, AllocError>
-    requires positive { 1 ≤ nodes }
-    requires within_limit { nodes ≤ 1000000 }
-    ensures weights { IfOk result (λ core. core.problem.weights ≡ weights.now) }
-    ensures solved { IfOk result (IsSolved nodes) }
-{
-    let search = Search::prepare(alloc, weights, nodes)?;
-    Ok(search.run())
 }

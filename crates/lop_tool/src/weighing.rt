@@ -1,36 +1,100 @@
-// What `value` replies.
-ghost use Rattle.std.specs.Prelude.{◌≡◌, ◌≤◌, IfOk, IfErr};
+// The command `value`.
+ghost use Rattle.std.specs.Prelude.{◌≡◌, ◌≤◌, ◌^◌, unsigned_abs, true, Some, IfOk, IfErr};
 ghost use Rattle.lop_desk.specs.Whole.{OnlyOpens};
 ghost use Rattle.lop_words.specs.declared.command.Command.TheVariants.{Value};
-ghost use Rattle.lop_tool.specs.Reply.{IsPrintable};
-ghost use Rattle.lop_tool.specs.Run.{AnswersValue, StopCause};
-ghost use Rattle.lop_tool.specs.ValueSteps.{WeighsNamed};
-ghost use Rattle.lop_tool.specs.Stops.{InputCause};
+ghost use Rattle.lop_tool.specs.Status.{number, done_status};
+ghost use Rattle.lop_tool.specs.Told.{files_of};
+ghost use Rattle.lop_tool.specs.Value.{WeighsNamed, valuation_text};
+ghost use Rattle.lop_tool.specs.Reply.{IsRight};
+ghost use Rattle.lop_tool.specs.Ended.{Ended, StopCause, OrderStop, NoFile};
 
 use crate::input::{Instance, read_input, read_order_file};
-use crate::reply::{Refusal, Reply, Stop, Valuation};
-use lop_desk::Desk;
+use crate::refusal::Refusal;
+use crate::reply::{Reply, deliver, halt};
+use crate::status::Status;
+use crate::stop::Stop;
+use lop_desk::{Desk, DeskFailed, TextRoom};
+use lop_report::print_value;
 use lop_value::value;
 use lop_words::Format;
 use std::alloc::Global;
 
-/// The reply to `value` of the order in the one file by the matrix of the other.
+/// What an order weighs.
+#[derive(Drop)]
+pub struct Valuation {
+    pub input: Instance,
+    pub value: i128,
+}
+
+impl Reply for Valuation {
+    ghost use Rattle.std.specs.Prelude.{⊤, ◌≤◌, ◌^◌, unsigned_abs, true};
+    ghost use Rattle.lop_tool.specs.Status.{done_status};
+    ghost use Rattle.lop_tool.specs.Value.{valuation_text};
+    ghost use Rattle.lop_tool.specs.Ended.{NoFile};
+
+    ghost text = { valuation_text };
+
+    ghost status = { λ _. done_status true };
+
+    ghost leaves = { λ _. NoFile };
+
+    ghost begun = { λ _ _. ⊤ };
+
+    ghost printable = { λ x. unsigned_abs x.value ≤ 2 ^ 63 };
+
+    fn status(&self) -> Status {
+        Status::Done
+    }
+
+    fn leave_file<D: Desk>(&self, _desk: &mut D, _room: &mut TextRoom) -> Result<(), DeskFailed> {
+        Ok(())
+    }
+
+    fn print<D: Desk>(&self, desk: &mut D, room: &mut TextRoom) -> Result<(), DeskFailed> {
+        print_value(
+            self.value,
+            &self.input.weights,
+            self.input.profile.as_ref(),
+            desk,
+            room,
+        )
+    }
+}
+
+/// Weighs the order in the one file by the weights in the other.
 pub fn weigh<D: Desk>(
     alloc: Global,
     format: Format,
     file: &str,
     order_file: &str,
     desk: &mut D,
-) -> Result<Reply, Stop>
+    room: &mut TextRoom,
+) -> Status
+    ensures later { D.faults desk.old ≤ D.faults desk.new }
+    ensures ended { Ended (Some (Value format file.now order_file.now)) (D.told desk.old) (D.told desk.new) (D.faults desk.old) (D.faults desk.new) (number result) }
+{
+    match weigh_file(alloc, format, file, order_file, desk) {
+        Ok(valuation) => deliver(&valuation, desk, room),
+        Err(stop) => halt(stop, desk, room),
+    }
+}
+
+fn weigh_file<D: Desk>(
+    alloc: Global,
+    format: Format,
+    file: &str,
+    order_file: &str,
+    desk: &mut D,
+) -> Result<Valuation, Stop>
     ensures world { OnlyOpens (D.told desk.old) (D.told desk.new) }
     ensures later { D.faults desk.old ≤ D.faults desk.new }
-    ensures reply { IfOk result (AnswersValue format file.now order_file.now (D.told desk.old)) }
-    ensures printable { IfOk result IsPrintable }
-    ensures stop { IfErr result (StopCause (Some (Value format file.now order_file.now)) (D.told desk.old) (D.faults desk.old) (D.faults desk.new)) }
+    ensures right { IfOk result (λ x. IsRight (files_of (D.told desk.old)) (Some (Value format file.now order_file.now)) (done_status true) (valuation_text x) NoFile) }
+    ensures printable { IfOk result (λ x. unsigned_abs x.value ≤ 2 ^ 63) }
+    ensures stop { IfErr result (StopCause (Value format file.now order_file.now) (D.told desk.old) (D.faults desk.old) (D.faults desk.new)) }
 {
     match read_input(alloc, format, file, desk) {
         Ok(Ok(input)) => weigh_order(alloc, input, order_file, desk),
-        Ok(Err(refusal)) => Ok(Reply::Refused(Refusal::Input(refusal))),
+        Ok(Err(refusal)) => Err(Stop::Refused(Refusal::Input(refusal))),
         Err(stop) => Err(stop),
     }
 }
@@ -41,20 +105,20 @@ fn weigh_order<D: Desk>(
     input: Instance,
     order_file: &str,
     desk: &mut D,
-) -> Result<Reply, Stop>
+) -> Result<Valuation, Stop>
     ensures world { OnlyOpens (D.told desk.old) (D.told desk.new) }
     ensures later { D.faults desk.old ≤ D.faults desk.new }
-    ensures reply { IfOk result (WeighsNamed input order_file.now (D.told desk.old)) }
-    ensures printable { IfOk result IsPrintable }
-    ensures stop { IfErr result (InputCause order_file.now (D.told desk.old) (D.faults desk.old) (D.faults desk.new)) }
+    ensures weighs { IfOk result (WeighsNamed input order_file.now (D.told desk.old)) }
+    ensures printable { IfOk result (λ x. unsigned_abs x.value ≤ 2 ^ 63) }
+    ensures stop { IfErr result (OrderStop input.weights.size order_file.now (D.told desk.old) (D.faults desk.old) (D.faults desk.new)) }
 {
     match read_order_file(alloc, order_file, input.weights.n(), desk) {
         Ok(Ok(order)) => {
             prove_eq!(order.n(), input.weights.n());
             let value = value(&input.weights, &order);
-            Ok(Reply::Valued(Valuation { input, value }))
+            Ok(Valuation { input, value })
         }
-        Ok(Err(refusal)) => Ok(Reply::Refused(Refusal::Order(refusal))),
+        Ok(Err(refusal)) => Err(Stop::Refused(Refusal::Order(refusal))),
         Err(stop) => Err(stop),
     }
 }

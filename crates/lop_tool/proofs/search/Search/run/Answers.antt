@@ -1,5 +1,5 @@
 use Rattle.lop_tool.proofs.SearchedLemmas.{solved_from}
 use Rattle.lop_tool.proofs.search.Search.run.Goals as goal
 
-pub returns-clause-solved : goal.returns-clause-solved
-returns-clause-solved c = rw (← c.self.view_is) (solved_from c.self.inside.core c.search.new.core c.search.ensures.same_problem c.self.invariant.0 c.search.ensures.history c.search.ensures.finished)
+pub returns : goal.returns
+returns c = rw (← c.self.view_is) (record { search = solved_from c.self.inside.core c.search.new.core c.search.ensures.same_problem c.self.invariant.0 c.search.ensures.history c.search.ensures.finished })

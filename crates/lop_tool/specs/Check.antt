@@ -1,0 +1,104 @@
+-- What `check` promises.
+use Rattle.std.specs.Prelude.{◌≡◌, ◌⊎◌, ℕ, ℤ, Bool, List, Option, None, Some, IfSome, Ok, ⊤}
+use Rattle.lop_desk.specs.World.{World, NamedFile, file_named, unread}
+use Rattle.lop_desk.specs.Causes.{Rose}
+use Rattle.lop_desk.specs.Desk.{IsMissing}
+use Rattle.lop_model.specs.Matrix.{Matrix, IsUpperBound}
+use Rattle.lop_certtext.specs.Answer.{CheckAnswer, accepted, rejected, too_long, check_answer}
+use Rattle.lop_check.specs.Verdict.{IsWeighed}
+use Rattle.lop_report.specs.Lines.{is_optimal}
+use Rattle.lop_report.specs.AnswerText.{accepted_text}
+use Rattle.lop_words.specs.declared.command.Format.{Format}
+use Rattle.lop_tool.specs.declared.input.Instance.{Instance}
+use Rattle.lop_tool.specs.declared.refusal.Refusal.{Refusal}
+use Rattle.lop_tool.specs.declared.refusal.Refusal.TheVariants.{LongCertificate}
+use Rattle.lop_tool.specs.declared.rejection.Rejection.{Rejection}
+use Rattle.lop_tool.specs.declared.rejection.Rejection.TheVariants.{Certificate}
+use Rattle.lop_tool.specs.declared.status.Status.{Status}
+use Rattle.lop_tool.specs.declared.status.Status.TheVariants as status
+use Rattle.lop_tool.specs.declared.checking.Outcome.{Outcome}
+use Rattle.lop_tool.specs.declared.checking.Outcome.TheVariants.{Accepted, Rejected}
+use Rattle.lop_tool.specs.declared.stop.Stop.{Stop}
+use Rattle.lop_tool.specs.declared.stop.Stop.TheVariants as stop
+use Rattle.lop_tool.specs.Status.{done_status}
+use Rattle.lop_tool.specs.Rejection.{rejection_line}
+use Rattle.lop_tool.specs.Input.{input_named}
+
+-- this is the checker's answer for the bytes
+abbrev pub IsAnswerFor : Matrix → List ℕ → CheckAnswer → Type 0
+IsAnswerFor C bytes answer = check_answer C bytes ≡ answer
+
+-- the checker's answer for the bytes under a name
+pub record GivesAnswer (C : Matrix) (name : List ℕ) (files : List NamedFile) (answer : CheckAnswer) : Type 0 where
+  pub bytes : List ℕ
+  pub there : file_named files name ≡ Some bytes
+  pub answer_is : IsAnswerFor C bytes answer
+
+-- the file is accepted with this input, and this is the checker's answer for the certificate
+pub record IsChecked (format : Format) (file cert : List ℕ) (files : List NamedFile) (input : Instance) (answer : CheckAnswer) : Type 0 where
+  pub accepted_file : input_named format files file ≡ Some (Ok input)
+  pub given : GivesAnswer input.weights cert files answer
+
+-- the checker accepts the certificate, no order of the file weighs more than the bound, and the text tells both numbers
+pub record Accepts (format : Format) (file cert : List ℕ) (told : Option (List NamedFile)) (optimal : Bool) (text : List ℕ) (left : Option NamedFile) : Type 0 where
+  pub input : Instance
+  pub value : ℤ
+  pub bound : ℤ
+  pub checked : IfSome told (λ files. IsChecked format file cert files input (accepted value bound))
+  pub weighed : IsWeighed input.weights value
+  pub bounds : IsUpperBound input.weights bound
+  pub optimal_is : optimal ≡ is_optimal value bound
+  pub text_is : text ≡ accepted_text value bound
+  pub left_is : left ≡ None
+
+-- the answer that a rejection stands for
+abbrev pub rejected_for : Rejection → CheckAnswer
+rejected_for (Certificate line reason) = rejected line reason
+
+-- the file is accepted, and the checker rejects the certificate for this
+pub record RejectsCertificate (format : Format) (file cert : List ℕ) (files : List NamedFile) (rejection : Rejection) : Type 0 where
+  pub input : Instance
+  pub checked : IsChecked format file cert files input (rejected_for rejection)
+
+-- the certificate is longer than the checker reads
+pub record IsLongCertificate (C : Matrix) (cert : List ℕ) (files : List NamedFile) (refusal : Refusal) : Type 0 where
+  pub refusal_is : refusal ≡ LongCertificate
+  pub given : GivesAnswer C cert files too_long
+
+-- The reply.
+
+-- the checker's answer that an outcome stands for
+abbrev pub answer_of : Outcome → CheckAnswer
+answer_of (Accepted value bound) = accepted value bound
+answer_of (Rejected rejection) = rejected_for rejection
+
+abbrev pub outcome_text : Outcome → List ℕ
+outcome_text (Accepted value bound) = accepted_text value bound
+outcome_text (Rejected rejection) = rejection_line rejection
+
+abbrev pub outcome_status : Outcome → Status
+outcome_status (Accepted value bound) = done_status (is_optimal value bound)
+outcome_status (Rejected rejection) = status.Rejected
+
+-- an accepted value is the weight of some order, and no order weighs more than the accepted bound
+abbrev pub IsBounded : Matrix → Outcome → Type 0
+IsBounded C (Accepted value bound) = IsWeighed C value × IsUpperBound C bound
+IsBounded C (Rejected rejection) = ⊤
+
+-- what the bytes that are still to be read come to, or why they come to nothing
+abbrev pub AnswersRest : Matrix → Option World → CheckAnswer → Type 0
+AnswersRest C told answer = IfSome told (λ w. IsAnswerFor C (unread w) answer)
+
+abbrev pub RestStop : Matrix → Option World → ℕ → ℕ → Stop → Type 0
+RestStop C told before now (stop.Refused refusal) = (refusal ≡ LongCertificate) × AnswersRest C told too_long
+RestStop C told before now stop.Fault = Rose before now
+RestStop C told before now stop.Memory = ⊤
+
+-- what the certificate under a name comes to, or why it comes to nothing
+abbrev pub AnswersNamed : Matrix → List ℕ → Option World → CheckAnswer → Type 0
+AnswersNamed C name told answer = IfSome told (λ w. GivesAnswer C name w.files answer)
+
+abbrev pub NamedStop : Matrix → List ℕ → Option World → ℕ → ℕ → Stop → Type 0
+NamedStop C name told before now (stop.Refused refusal) = (refusal ≡ LongCertificate) × AnswersNamed C name told too_long
+NamedStop C name told before now stop.Fault = IsMissing told name ⊎ Rose before now
+NamedStop C name told before now stop.Memory = ⊤

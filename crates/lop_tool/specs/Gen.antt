@@ -1,0 +1,30 @@
+-- What `gen` promises.
+use Rattle.std.specs.Prelude.{◌≡◌, ℕ, Bool, List, Option, None}
+use Rattle.lop_desk.specs.World.{NamedFile}
+use Rattle.lop_core.specs.Core.{CoreFields}
+use Rattle.lop_gen.specs.Generated.{generated_matrix}
+use Rattle.lop_report.specs.Lines.{is_optimal}
+use Rattle.lop_report.specs.AnswerText.{gen_text}
+use Rattle.lop_tool.specs.declared.generation.Generation.{Generation}
+use Rattle.lop_tool.specs.Search.{Found, found_of, IsSearchOf}
+
+-- this was found in the weights that the seed gives with ten nodes at most, and the text tells its numbers
+pub record Generates (seed n : ℕ) (optimal : Bool) (text : List ℕ) (left : Option NamedFile) : Type 0 where
+  pub found : Found
+  pub core : CoreFields
+  pub search : IsSearchOf (generated_matrix seed n) 10 found core
+  pub optimal_is : optimal ≡ is_optimal found.value found.bound
+  pub text_is : text ≡ gen_text seed (generated_matrix seed n) found.value found.bound found.nodes
+  pub left_is : left ≡ None
+
+-- the reply: its text, and whether value and bound are the same
+abbrev pub generation_text : Generation → List ℕ
+generation_text x = gen_text x.seed x.core.problem.weights x.core.state.best (found_of x.core).bound x.core.state.evaluated
+
+abbrev pub generation_optimal : Generation → Bool
+generation_optimal x = is_optimal (found_of x.core).value (found_of x.core).bound
+
+-- the reply is a search of the weights that the seed gives
+pub record IsGenerated (seed n : ℕ) (x : Generation) : Type 0 where
+  pub seed_is : x.seed ≡ seed
+  pub search : IsSearchOf (generated_matrix seed n) 10 (found_of x.core) x.core

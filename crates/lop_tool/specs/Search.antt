@@ -1,0 +1,65 @@
+-- What a search found.
+use Rattle.std.specs.Prelude.{◌≡◌, ◌⊎◌, ℕ, ◌+◌, ◌*◌, ◌≤◌, List, [], ℤ, ◌≤ℤ◌, ◌<ℤ◌}
+use Rattle.lop_model.specs.Order.{IsOrder}
+use Rattle.lop_model.specs.Matrix.{Matrix, IsWeights, weight, IsUpperBound}
+use Rattle.lop_leaf.specs.Packing.{packing_bound}
+use Rattle.lop_climb.specs.StartOrder.{IsBeckerOrder}
+use Rattle.lop_climb.specs.Insertion.{IsClimb, IsInsertionOptimum}
+use Rattle.lop_core.specs.AllOrders.{factorial}
+use Rattle.lop_core.specs.Machine.{state_bound}
+use Rattle.lop_core.specs.Core.{CoreFields, HasHistory}
+use Rattle.lop_core.specs.Outcome.{IsOutcome, IsFinished}
+
+-- an order, its value, a bound, and how many nodes were evaluated
+pub record Found : Type 0 where
+  pub order : List ℕ
+  pub value : ℤ
+  pub bound : ℤ
+  pub nodes : ℕ
+
+-- what a core holds after its search
+abbrev pub found_of : CoreFields → Found
+found_of core = record { order = core.order; value = core.state.best; bound = state_bound core.state; nodes = core.state.evaluated }
+
+-- the value is at least the weight of an order that insertions lead to from the Becker order, each of which gains, and
+-- that no insertion betters unless the climb stopped after 10 n² of them
+pub record IsClimbed (C : Matrix) (value : ℤ) : Type 0 where
+  pub start : List ℕ
+  pub is_start : IsBeckerOrder C start
+  pub order : List ℕ
+  pub moves : ℕ
+  pub climb : IsClimb C start moves order
+  pub top : IsInsertionOptimum C order ⊎ (moves ≡ 10 * C.size * C.size)
+  pub least : weight C order ≤ℤ value
+
+-- the numbers are those of a finished run of the search with this budget: the value is the order's weight, no order
+-- weighs more than the bound, and the two differ only where the budget was spent, and not with a budget for all nodes
+-- that there can be; the value is at least the weight of the start order and of what a climb from there leads to, and
+-- the bound at most the packing bound
+pub record IsSearched (C : Matrix) (budget : ℕ) (x : Found) : Type 0 where
+  pub weights : IsWeights C
+  pub outcome : IsOutcome C budget x.order x.value x.bound x.nodes
+  pub order : IsOrder C.size x.order
+  pub value_is : x.value ≡ weight C x.order
+  pub bounds : IsUpperBound C x.bound
+  pub spent : x.value <ℤ x.bound → x.nodes ≡ budget
+  pub closed : 2 * factorial C.size ≤ budget + 1 → x.value ≡ x.bound
+  pub from_start : (t : List ℕ) → IsBeckerOrder C t → weight C t ≤ℤ x.value
+  pub climbed : IsClimbed C x.value
+  pub packed : x.bound ≤ℤ packing_bound C []
+
+-- a core that may be searched: its first order weighs at least as much as the start order and what a climb leads to
+pub record IsPrepared (core : CoreFields) : Type 0 where
+  pub positive : 1 ≤ core.problem.budget
+  pub weights : IsWeights core.problem.weights
+  pub from_start : (t : List ℕ) → IsBeckerOrder core.problem.weights t → weight core.problem.weights t ≤ℤ core.problem.start
+  pub climbed : IsClimbed core.problem.weights core.problem.start
+
+-- these were found in C with this budget, as this core shows: its journal is lawful and its run finished
+pub record IsSearchOf (C : Matrix) (budget : ℕ) (x : Found) (core : CoreFields) : Type 0 where
+  pub found_is : x ≡ found_of core
+  pub weights_are : core.problem.weights ≡ C
+  pub budget_is : core.problem.budget ≡ budget
+  pub history : HasHistory core
+  pub finished : IsFinished core.problem core.state
+  pub searched : IsSearched C budget x

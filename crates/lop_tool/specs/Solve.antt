@@ -1,0 +1,47 @@
+-- What `solve` promises.
+use Rattle.std.specs.Prelude.{◌≡◌, ◌≤◌, ◌^◌, ℕ, Bool, List, length, unsigned_abs, Option, Some, IfSome, Ok}
+use Rattle.lop_desk.specs.World.{NamedFile}
+use Rattle.lop_core.specs.Core.{CoreFields}
+use Rattle.lop_report.specs.Lines.{is_optimal}
+use Rattle.lop_report.specs.AnswerText.{solve_text}
+use Rattle.lop_words.specs.declared.command.Format.{Format}
+use Rattle.lop_tool.specs.declared.input.Instance.{Instance}
+use Rattle.lop_tool.specs.declared.solve.Solution.{Solution}
+use Rattle.lop_tool.specs.Input.{input_named, IsOfSize}
+use Rattle.lop_tool.specs.Search.{Found, found_of, IsSearchOf}
+use Rattle.lop_tool.specs.Certificate.{LeavesCertificate}
+
+-- the text of what was found in an instance
+abbrev pub found_text : Instance → Found → List ℕ
+found_text input x = solve_text input.weights input.profile x.order x.value x.bound x.nodes
+
+-- the file is accepted with this instance, this was found in its weights with the node budget, the text tells it, and
+-- the certificate of the search is left under the name, if one is given
+pub record Solves (format : Format) (file : List ℕ) (nodes : ℕ) (cert : Option (List ℕ)) (told : Option (List NamedFile)) (optimal : Bool) (text : List ℕ) (left : Option NamedFile) : Type 0 where
+  pub input : Instance
+  pub accepted_file : IfSome told (λ files. input_named format files file ≡ Some (Ok input))
+  pub found : Found
+  pub core : CoreFields
+  pub search : IsSearchOf input.weights nodes found core
+  pub optimal_is : optimal ≡ is_optimal found.value found.bound
+  pub text_is : text ≡ found_text input found
+  pub left_is : LeavesCertificate cert core left
+
+-- the reply: its text, and whether value and bound are the same
+abbrev pub solution_text : Solution → List ℕ
+solution_text x = found_text x.input (found_of x.core)
+
+abbrev pub solution_optimal : Solution → Bool
+solution_optimal x = is_optimal (found_of x.core).value (found_of x.core).bound
+
+-- the reply is a search of the instance's weights with this budget, for a certificate under this name
+pub record SolvesInstance (input : Instance) (nodes : ℕ) (cert : Option (List ℕ)) (x : Solution) : Type 0 where
+  pub input_is : x.input ≡ input
+  pub cert_is : x.cert ≡ cert
+  pub search : IsSearchOf input.weights nodes (found_of x.core) x.core
+
+-- what printing asks of it
+pub record IsPrintable (x : Solution) : Type 0 where
+  pub same_n : length x.core.order ≡ x.input.weights.size
+  pub value : unsigned_abs x.core.state.best ≤ 2 ^ 63
+  pub of_size : IsOfSize x.input.weights.size x.input.profile

@@ -15,7 +15,8 @@ use Rattle.lop_cuts.specs.Lagrangian.{lagrangian_value}
 use Rattle.lop_cuts.proofs.LagrangianLemmas.{lagrangian_value-plain}
 use Rattle.lop_leaf.specs.Record.{ScaledTerms}
 use Rattle.lop_leaf.specs.Bound.{CertifiesUnder}
-use Rattle.lop_leaf.proofs.PathLemmas.{CertifiesUnder-more, has_pair-closures}
+use Rattle.lop_leaf.proofs.PathLemmas.{CertifiesUnder-more}
+use Rattle.lop_cuts.proofs.ClosureUnique.{has_pair-closures}
 use Rattle.lop_core.specs.declared.node.SearchNode.{SearchNode}
 use Rattle.lop_core.specs.declared.node.Standing.{Standing}
 use Rattle.lop_core.specs.declared.node.Standing.TheVariants.{Idle, Split}

@@ -35,7 +35,7 @@ use Rattle.lop_core.proofs.CandidateSteps.{reported_candidates}
 use Rattle.lop_core.proofs.Replay.{replay_push, IsLawful_push, sound_replay, covered_once, weight-le-state_bound}
 use Rattle.lop_core.proofs.Fates.{out_exactly}
 use Rattle.lop_core.proofs.Sound.{count_changed, one_if}
-use Rattle.lop_core.proofs.PathRoom.{length-branching}
+use Rattle.lop_model.proofs.BranchingLength.{length-branching}
 use Rattle.lop_core.proofs.Certified.{certified_root}
 use Rattle.lop_core.proofs.BookLemmas.{refused_late, without_terms_found, cuts_below, TakenFacts, facts_of, GrownBook, report_recorded, rooms_after}
 use Rattle.lop_core.proofs.Counts.{counted}

@@ -15,7 +15,7 @@ use Rattle.lop_leaf.specs.Bound.{record_value, IsQuotient}
 use Rattle.lop_leaf.specs.Packing.{packed, packing_bound}
 use Rattle.lop_leaf.specs.Ticket.{TicketFields}
 use Rattle.lop_leaf.specs.Sound.{IsSoundTicket, IsSoundResult}
-use Rattle.lop_leaf.proofs.ClosureUnique.{IsClosure-unique}
+use Rattle.lop_cuts.proofs.ClosureUnique.{IsClosure-unique}
 
 -- the pairs of a branching path are of two objects each
 pub path_objects : (n : ℕ) (path : List Pair) → IsBranchingPath n path → All (λ p. (p.before < n) × (p.after < n) × (p.before ≢ p.after)) path

@@ -16,7 +16,6 @@ pub mod ReadyCount
 pub mod PackedLemmas
 pub mod Certified
 pub mod BookLemmas
-pub mod PathRoom
 pub mod CoreLemmas
 pub mod Extensions
 pub mod OrderCount

@@ -1,5 +1,3 @@
-pub mod PairLemmas
-pub mod RisingLemmas
 pub mod TableLemmas
 pub mod LinkLemmas
 pub mod TableFixings

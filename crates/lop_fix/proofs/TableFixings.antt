@@ -7,10 +7,12 @@ use Rattle.std.proofs.lemmas.Bool.{cases_lt}
 use Rattle.std.proofs.lemmas.Bool.Decides.{nat_tests}
 use Rattle.lop_model.specs.declared.pair.Pair.{Pair}
 use Rattle.lop_model.specs.Fixings.{has_pair, LeadsTo, one_pair, IsClosure, IsUndecided}
-use Rattle.lop_fix.specs.Table.{pair, pairs_of, row_words, at, Links, IsClosedTable}
+use Rattle.lop_fix.specs.Table.{row_words, at, Links, IsClosedTable}
+use Rattle.lop_model.specs.Related.{pairs_of}
+use Rattle.lop_model.specs.Related.{pair}
 use Rattle.lop_fix.specs.PartialOrder.{FixedPairs, IsPartialOrder}
-use Rattle.lop_fix.proofs.RisingLemmas.{pairs_of-rising}
-use Rattle.lop_fix.proofs.PairLemmas.{has_pair-pairs_of}
+use Rattle.lop_model.proofs.RisingPairs.{pairs_of-rising}
+use Rattle.lop_model.proofs.RelatedPairs.{has_pair-pairs_of}
 use Rattle.lop_fix.proofs.TableLemmas.{at-zeros}
 use Rattle.lop_model.proofs.ClosureLemmas.{closed_more, no_cycle_more, IsClosure-itself, IsClosure-none, no_chain}
 

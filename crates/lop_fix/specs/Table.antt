@@ -1,17 +1,7 @@
-use Rattle.std.specs.Prelude.{◌≡◌, ℕ, ◌+◌, ◌*◌, ◌/◌, ◌%◌, ◌<◌, Bool, false, List, length, map, slice_index, ◌==◌, ◌&&◌, ◌||◌}
+use Rattle.std.specs.Prelude.{◌≡◌, ℕ, ◌+◌, ◌*◌, ◌/◌, ◌%◌, ◌<◌, Bool, false, List, length, slice_index, ◌==◌, ◌&&◌, ◌||◌}
 use Rattle.std.specs.Int.{bit_at}
-use Rattle.std.specs.List.{range_with_len, filter, flat_map}
-use Rattle.lop_model.specs.declared.pair.Pair.{Pair}
 use Rattle.lop_model.specs.Fixings.{IsClosure}
-
--- the pair of two objects
-abbrev pub pair : ℕ → ℕ → Pair
-pair a b = record { before = a; after = b }
-
--- the pairs of objects below n that are related, in rising order
-abbrev pub pairs_of : ℕ → (ℕ → ℕ → Bool) → List Pair
-pairs_of n related =
-    flat_map (λ a. map (pair a) (filter (related a) (range_with_len 0 n))) (range_with_len 0 n)
+use Rattle.lop_model.specs.Related.{pairs_of}
 
 -- the words of 64 bits that a row of n bits takes
 abbrev pub row_words : ℕ → ℕ

@@ -33,7 +33,8 @@ pub struct Fixings {
 
 impl Model for Fixings {
     ghost use Rattle.lop_fix.specs.PartialOrder.{FixedPairs};
-    ghost use Rattle.lop_fix.specs.Table.{pairs_of, at, IsClosedTable};
+    ghost use Rattle.lop_fix.specs.Table.{at, IsClosedTable};
+    ghost use Rattle.lop_model.specs.Related.{pairs_of};
 
     ghost Value = { FixedPairs };
 

@@ -1,7 +1,7 @@
 -- Lists of hints that are rounded in turn.
-use Rattle.std.proofs.Common.{◌≡◌, ◌≢◌, ℕ, ◌+◌, ◌-◌, ◌*◌, ◌/◌, ◌%◌, ◌^◌, ◌<◌, ◌≤◌, ltb, cond, true, false, min, List, [], ◌∷◌, ◌++◌, length, map, take, get_or, refl, sym, ◌∙◌, ap, subst, arith, ℤ, pos}
-use Rattle.std.specs.List.{All, AllPairs, zip, filter}
-use Rattle.std.proofs.lemmas.List.{get_or-take, get_or_default, get_or-map, length-take-le, length-map, take_all}
+use Rattle.std.proofs.Common.{◌≡◌, ℕ, ◌+◌, ◌*◌, ◌/◌, ◌%◌, ◌^◌, ◌<◌, ◌≤◌, ltb, cond, List, [], ◌∷◌, ◌++◌, length, map, take, get_or, sym, ◌∙◌, ap, subst, arith, ℤ, pos}
+use Rattle.std.specs.List.{All, zip, filter}
+use Rattle.std.proofs.lemmas.List.{get_or-take, get_or-map, length-take-le, length-map, take_all}
 use Rattle.std.proofs.lemmas.List.Elements.{filter_more, All-filter}
 use Rattle.std.proofs.lemmas.List.Sums.{length-filter, count_by-le-length}
 use Rattle.std.proofs.Math.Nat.{mul-le-mul_left}

@@ -1,4 +1,3 @@
-pub mod CellLemmas
 pub mod ChargeLemmas
 pub mod ResidualLemmas
 pub mod PackingLemmas
@@ -8,5 +7,4 @@ pub mod PackingValue
 pub mod FallLemmas
 pub mod QuotientLemmas
 pub mod PathLemmas
-pub mod ClosureUnique
 pub mod HintLemmas

@@ -18,8 +18,9 @@ use Rattle.lop_cuts.specs.Lagrangian.{Term, reduced_entry}
 use Rattle.lop_fix.specs.PartialOrder.{FixedPairs, IsPartialOrder}
 use Rattle.lop_leaf.specs.Record.{ScaledTerms}
 use Rattle.lop_leaf.specs.Packing.{positive_part, residual, lesser, residual_number, cycle_residual, IsExhausted, AreThree, dicycle, in_turn}
-use Rattle.lop_leaf.specs.Table.{cell, IsResidualWord, lowered, HasResiduals, IsSpentCycle, IsSpent, IsPacking}
-use Rattle.lop_leaf.proofs.CellLemmas.{read-set}
+use Rattle.lop_leaf.specs.Table.{IsResidualWord, lowered, HasResiduals, IsSpentCycle, IsSpent, IsPacking}
+use Rattle.lop_model.specs.Cells.{cell}
+use Rattle.lop_model.proofs.CellLemmas.{read-set}
 use Rattle.lop_leaf.proofs.ChargeLemmas.{entries_within}
 use Rattle.lop_leaf.proofs.ResidualLemmas.{residual_of, word_step, least_word, limited, lowered-zero, lowered-limited, arc_cases, one_way, reduced-dicycle}
 

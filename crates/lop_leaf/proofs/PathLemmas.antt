@@ -1,5 +1,5 @@
 -- Closures of branching paths, and the bounds that they give: what a node's children inherit.
-use Rattle.std.proofs.Common.{◌≡◌, ℕ, zero, suc, ◌+◌, ◌<◌, ◌≤◌, Bool, true, false, eqb, ltb, ◌&&◌, ◌||◌, List, [], ◌∷◌, ◌++◌, length, take, get_or, refl, sym, ◌∙◌, subst, ℤ, pos, ◌+ℤ◌, ◌*ℤ◌, ◌≤ℤ◌, ◌<ℤ◌, arith}
+use Rattle.std.proofs.Common.{◌≡◌, ℕ, zero, suc, ◌+◌, ◌<◌, ◌≤◌, Bool, eqb, ltb, ◌&&◌, ◌||◌, List, [], ◌∷◌, ◌++◌, length, take, get_or, refl, sym, ◌∙◌, subst, ℤ, pos, ◌+ℤ◌, ◌*ℤ◌, ◌≤ℤ◌, ◌<ℤ◌, arith}
 use Rattle.std.specs.Prelude.{IsTrue}
 use Rattle.std.proofs.lemmas.List.{take_more, take_all}
 use Rattle.std.proofs.lemmas.Int.{ints}
@@ -12,9 +12,11 @@ use Rattle.lop_model.proofs.FixingsLemmas.{IsLinearExtension-closure}
 use Rattle.lop_model.proofs.ClosureLemmas.{closed_more, no_cycle_more, chain-more, IsClosure-itself, IsClosure-none}
 use Rattle.lop_cuts.proofs.LagrangianLemmas.{lagrangian_value-more, weight-le-certified, AreValid-AreCuts}
 use Rattle.lop_fix.specs.PartialOrder.{IsPartialOrder}
-use Rattle.lop_fix.specs.Table.{pair, pairs_of}
-use Rattle.lop_fix.proofs.PairLemmas.{has_pair-pairs_of}
-use Rattle.lop_fix.proofs.RisingLemmas.{pairs_of-rising}
+use Rattle.lop_model.specs.Related.{pairs_of}
+use Rattle.lop_model.specs.Related.{pair}
+use Rattle.lop_model.proofs.RelatedPairs.{has_pair-pairs_of}
+use Rattle.lop_cuts.proofs.ClosureUnique.{has_pair-closures}
+use Rattle.lop_model.proofs.RisingPairs.{pairs_of-rising}
 use Rattle.lop_fix.proofs.TableFixings.{has_pair-below, IsPartialOrder-none}
 use Rattle.lop_leaf.specs.Record.{ScaledTerms, HasCutsBelow}
 use Rattle.lop_leaf.specs.Bound.{record_value, CertifiesUnder}
@@ -86,16 +88,6 @@ closed_prefix n path (suc k) l h =
 
 pub ClosedOrder-path : (n : ℕ) (path : List Pair) → IsBranchingPath n path → ClosedOrder n path
 ClosedOrder-path n path h = subst (λ (F : List Pair). ClosedOrder n F) (take_all (length path) path (omega arith)) (closed_prefix n path (length path) (omega arith) h)
-
--- ---- two closures of the same pairs
-
-same_tests : (f g : Bool) → (IsTrue f → IsTrue g) → (IsTrue g → IsTrue f) → f ≡ g
-same_tests true g p q = sym (p refl)
-same_tests false true p q = q refl
-same_tests false false p q = refl
-
-pub has_pair-closures : (F G H : List Pair) (a b : ℕ) → IsClosure F G → IsClosure F H → has_pair G a b ≡ has_pair H a b
-has_pair-closures F G H a b c d = same_tests (has_pair G a b) (has_pair H a b) (λ t. (d.each a b).1 ((c.each a b).0 t)) (λ t. (c.each a b).1 ((d.each a b).0 t))
 
 -- every closure of a branching path is a partial order
 pub IsPartialOrder-closure : (n : ℕ) (path G : List Pair) → IsBranchingPath n path → IsClosure path G → IsPartialOrder (record { size = n; pairs = G })

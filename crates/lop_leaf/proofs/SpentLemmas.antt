@@ -7,7 +7,8 @@ use Rattle.lop_model.specs.Fixings.{has_pair}
 use Rattle.lop_cuts.specs.Arcs.{cycle_arcs}
 use Rattle.lop_leaf.specs.Record.{ScaledTerms}
 use Rattle.lop_leaf.specs.Packing.{AreThree, AreExhausted}
-use Rattle.lop_leaf.specs.Table.{cell, lowered, HasResiduals, IsSpentCycle, IsPassed, ArePassed, IsLater}
+use Rattle.lop_leaf.specs.Table.{lowered, HasResiduals, IsSpentCycle, IsPassed, ArePassed, IsLater}
+use Rattle.lop_model.specs.Cells.{cell}
 use Rattle.lop_leaf.proofs.ResidualLemmas.{lowered-zero}
 use Rattle.lop_leaf.proofs.PackingLemmas.{which_least, exhausted_cycle}
 

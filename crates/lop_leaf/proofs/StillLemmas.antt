@@ -8,7 +8,8 @@ use Rattle.lop_model.specs.Fixings.{has_pair}
 use Rattle.lop_cuts.specs.Lagrangian.{Term, reduced_entry}
 use Rattle.lop_leaf.specs.Record.{ScaledTerms}
 use Rattle.lop_leaf.specs.Packing.{positive_part, pack_cycle, pack_triple, in_turn, AreThree}
-use Rattle.lop_leaf.specs.Table.{cell, IsResidualWord, HasResiduals, IsPassed, ArePassed, IsPassedPair, IsLater}
+use Rattle.lop_leaf.specs.Table.{IsResidualWord, HasResiduals, IsPassed, ArePassed, IsPassedPair, IsLater}
+use Rattle.lop_model.specs.Cells.{cell}
 use Rattle.lop_leaf.proofs.ResidualLemmas.{residual_of, part-to_zero, part-positive, pack_cycle-none, pack_cycle-full}
 use Rattle.lop_leaf.proofs.PackingLemmas.{exhausted_cycle, in_turn_more}
 

@@ -1,26 +1,13 @@
 -- Tables of n rows of n numbers that lie one after another.
-use Rattle.std.specs.Prelude.{◌≡◌, ◌≢◌, ◌⊎◌, ℕ, ◌+◌, ◌-◌, ◌*◌, ◌<◌, ◌≤◌, ◌^◌, ◌==◌, List, [], ◌∷◌, length, count_by, All, slice_index, Option, Some, None, if◌then◌else◌}
+use Rattle.std.specs.Prelude.{◌≡◌, ◌≢◌, ◌⊎◌, ℕ, ◌-◌, ◌*◌, ◌<◌, ◌≤◌, ◌^◌, ◌==◌, List, [], ◌∷◌, length, All, Option, Some, None, if◌then◌else◌}
 use Rattle.lop_model.specs.declared.pair.Pair.{Pair}
 use Rattle.lop_model.specs.Matrix.{Matrix}
-use Rattle.lop_cuts.specs.Arcs.{arc, same_arc}
+use Rattle.lop_model.specs.Cells.{cell}
 use Rattle.lop_cuts.specs.declared.kind.CutKind.{CutKind}
 use Rattle.lop_cuts.specs.declared.kind.CutKind.TheVariants.{Dicycle}
-use Rattle.lop_cuts.specs.Lagrangian.{Term, charge, reduced_entry}
+use Rattle.lop_cuts.specs.Lagrangian.{Term, reduced_entry}
 use Rattle.lop_leaf.specs.Record.{ScaledTerms, FitTerms}
 use Rattle.lop_leaf.specs.Packing.{residual, AreThree}
-
--- the number in row a and column b
-abbrev pub cell : List ℕ → ℕ → ℕ → ℕ → ℕ
-cell t n a b = slice_index t (a * n + b)
-
--- how often the arc from a to b stands in a list
-abbrev pub arc_count : ℕ → ℕ → List Pair → ℕ
-arc_count a b arcs = count_by (λ x. same_arc x (arc a b)) arcs
-
--- the table has the charge of each arc
-pub record HasCharges (n : ℕ) (terms : List Term) (t : List ℕ) : Type 0 where
-  pub square : length t ≡ n * n
-  pub each : (a b : ℕ) → a < n → b < n → cell t n a b ≡ charge terms a b
 
 -- a residual in a word of 64 bits: the greatest word stands for one without limit
 abbrev pub IsResidualWord : Option ℕ → ℕ → Type 0

@@ -6,7 +6,9 @@ ghost use Rattle.lop_model.specs.Bound.{pair_value};
 ghost use Rattle.lop_cuts.specs.Kind.{IsArcBelow};
 ghost use Rattle.lop_cuts.specs.Lagrangian.{Term, right_sides, reduced_entry};
 ghost use Rattle.lop_leaf.specs.Record.{FitTerms, IsScaledTerms};
-ghost use Rattle.lop_leaf.specs.Table.{cell, arc_count, HasCharges};
+ghost use Rattle.lop_cuts.specs.Charges.{HasCharges};
+ghost use Rattle.lop_cuts.specs.Charges.{arc_count};
+ghost use Rattle.lop_model.specs.Cells.{cell};
 
 use crate::LeafRecord;
 use lop_fix::{Decision, Fixings};

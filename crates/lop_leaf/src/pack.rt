@@ -8,7 +8,8 @@ ghost use Rattle.lop_cuts.specs.Lagrangian.{reduced_entry};
 ghost use Rattle.lop_leaf.specs.Record.{HasCutsBelow};
 ghost use Rattle.lop_leaf.specs.Bound.{record_value};
 ghost use Rattle.lop_leaf.specs.Packing.{positive_part, residual, pack_cycle, pack_triple, pack_pair, pack_object, packed, packing_bound, AreThree, IsExhausted, AreExhausted};
-ghost use Rattle.lop_leaf.specs.Table.{cell, lowered, IsResidualWord, HasResiduals, IsPacking, IsPassed, ArePassed, IsPassedPair, IsLater};
+ghost use Rattle.lop_leaf.specs.Table.{lowered, IsResidualWord, HasResiduals, IsPacking, IsPassed, ArePassed, IsPassedPair, IsLater};
+ghost use Rattle.lop_model.specs.Cells.{cell};
 
 use crate::{LeafRecord, MAX_TERMS, PairRoom, upper};
 use lop_cuts::Cut;

@@ -13,7 +13,7 @@ use Rattle.lop_leaf.specs.Packing.{packing_bound}
 use Rattle.lop_leaf.specs.Ticket.{TicketFields}
 use Rattle.lop_leaf.specs.Evaluated.{EvaluatedFields}
 use Rattle.lop_leaf.specs.Sound.{IsSoundResult}
-use Rattle.lop_leaf.proofs.ClosureUnique.{IsClosure-unique}
+use Rattle.lop_cuts.proofs.ClosureUnique.{IsClosure-unique}
 use Rattle.lop_node.proofs.SoundLemmas.{quotient_of}
 
 less : (a b c : ℤ) → a ≤ℤ b → b ≤ℤ c → a ≤ℤ c

@@ -8,7 +8,7 @@ use Rattle.lop_leaf.specs.Record.{ScaledTerms, no_terms}
 use Rattle.lop_leaf.specs.Bound.{record_value}
 use Rattle.lop_leaf.specs.Ticket.{TicketFields}
 use Rattle.lop_leaf.specs.Sound.{IsSoundTicket}
-use Rattle.lop_leaf.proofs.ClosureUnique.{IsClosure-unique}
+use Rattle.lop_cuts.proofs.ClosureUnique.{IsClosure-unique}
 use Rattle.lop_node.proofs.SoundLemmas.{once}
 
 below_next : (u b v : ℤ) → u ≡ b → v ≡ b +ℤ pos 1 → u <ℤ v

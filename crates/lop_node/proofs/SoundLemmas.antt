@@ -23,7 +23,7 @@ use Rattle.lop_leaf.specs.Sound.{IsSoundTicket, IsSoundResult}
 use Rattle.lop_leaf.proofs.QuotientLemmas.{scaled_down}
 use Rattle.lop_leaf.proofs.FallLemmas.{weight-decided}
 use Rattle.lop_leaf.proofs.PathLemmas.{IsPartialOrder-closure, weight-le-certified_under}
-use Rattle.lop_leaf.proofs.ClosureUnique.{IsClosure-unique}
+use Rattle.lop_cuts.proofs.ClosureUnique.{IsClosure-unique}
 use Rattle.lop_node.specs.Judged.{IsPackJudged}
 
 -- the pairs of a branching path are of two objects each

@@ -3,4 +3,5 @@
 
 mod cells;
 mod profile;
+
 pub use profile::{ProfileFault, pair_weights, voters};

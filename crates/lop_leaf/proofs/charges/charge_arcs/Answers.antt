@@ -1,7 +1,7 @@
 use Rattle.std.proofs.Common.{◌≡◌, ◌*◌, length, ◌∙◌}
 use Rattle.std.proofs.lemmas.List.{length-set}
-use Rattle.lop_fix.specs.Table.{pair}
-use Rattle.lop_leaf.proofs.ChargeLemmas.{charge_step}
+use Rattle.lop_model.specs.Related.{pair}
+use Rattle.lop_cuts.proofs.ChargeLemmas.{charge_step}
 use Rattle.lop_leaf.proofs.charges.charge_arcs.Goals as goal
 
 pub loop-arc-preserved : goal.loop-arc-preserved

@@ -1,5 +1,6 @@
 use Rattle.std.proofs.Common.{◌≡◌, ℕ, ◌+◌, ◌*◌, ◌<◌, length, take}
-use Rattle.lop_leaf.specs.Table.{cell, arc_count}
+use Rattle.lop_cuts.specs.Charges.{arc_count}
+use Rattle.lop_model.specs.Cells.{cell}
 use Rattle.lop_leaf.proofs.charges.charge_arcs.Given as goal
 
 abbrev pub invariant-loop-arc : goal.invariant-loop-arc

@@ -7,7 +7,8 @@ use Rattle.lop_cuts.specs.Lagrangian.{Term, charge, right_sides}
 use Rattle.lop_cuts.proofs.ArcLemmas.{times}
 use Rattle.lop_cuts.proofs.LagrangianLemmas.{charge_more}
 use Rattle.lop_leaf.specs.Record.{IsMultiplier}
-use Rattle.lop_leaf.proofs.ChargeLemmas.{charge_take-le, right_side_more, side-le}
+use Rattle.lop_leaf.proofs.ChargeLemmas.{charge_take-le, side-le}
+use Rattle.lop_cuts.proofs.ChargeLemmas.{right_side_more}
 use Rattle.lop_leaf.proofs.charges.charge_terms.Goals as goal
 
 pub charge_arcs-requires-clause-below : goal.charge_arcs-requires-clause-below

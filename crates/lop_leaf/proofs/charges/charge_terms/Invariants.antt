@@ -1,6 +1,6 @@
 use Rattle.std.proofs.Common.{◌≡◌, ◌*◌, ◌^◌, ◌≤◌, take}
 use Rattle.lop_cuts.specs.Lagrangian.{right_sides}
-use Rattle.lop_leaf.specs.Table.{HasCharges}
+use Rattle.lop_cuts.specs.Charges.{HasCharges}
 use Rattle.lop_leaf.proofs.charges.charge_terms.Given as goal
 
 abbrev pub invariant-loop-index : goal.invariant-loop-index

@@ -1,5 +1,5 @@
 use Rattle.std.proofs.Common.{◌*◌, ◌+◌, ◌<◌, ◌∙◌, arith}
-use Rattle.lop_leaf.proofs.CellLemmas.{place_within}
+use Rattle.lop_model.proofs.CellLemmas.{place_within}
 use Rattle.lop_leaf.proofs.charges.clear_charges.Goals as goal
 
 pub returns : goal.returns

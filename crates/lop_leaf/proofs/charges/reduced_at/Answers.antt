@@ -3,7 +3,9 @@ use Rattle.std.specs.Int.{w64, w128}
 use Rattle.std.proofs.lemmas.Int.{ints, to_z-of_z, to_z_pos}
 use Rattle.lop_cuts.specs.Lagrangian.{charge}
 use Rattle.lop_model.specs.Matrix.{entry}
-use Rattle.lop_leaf.proofs.ChargeLemmas.{charge-le, scaled_low, scaled_high, entry_low, entry_high}
+use Rattle.lop_leaf.proofs.ChargeLemmas.{charge-le, entry_low, entry_high}
+use Rattle.lop_cuts.proofs.ChargeLemmas.{scaled_high}
+use Rattle.lop_cuts.proofs.ChargeLemmas.{scaled_low}
 use Rattle.lop_leaf.proofs.charges.reduced_at.Goals as goal
 
 fits_within : (x : ℤ) → neg_ℤ (pos (2 ^ 77)) ≤ℤ x → x ≤ℤ pos (2 ^ 77) → FitsSigned w128 x

@@ -1,4 +1,4 @@
-use Rattle.std.proofs.Common.{◌≡◌, ◌≢◌, ◌<◌, ◌≤◌, ℕ, length, List, [], ◌∷◌, ◌++◌, cond, ltb, true, false, get_or, sym, ◌∙◌, ap, subst, arith, rules, append-nil, pos, w64, FitsSigned}
+use Rattle.std.proofs.Common.{◌≡◌, ◌≢◌, ◌<◌, ℕ, length, List, [], ◌∷◌, ◌++◌, cond, get_or, sym, ◌∙◌, ap, subst, arith, rules, append-nil, pos, w64, FitsSigned}
 use Rattle.std.proofs.lemmas.Int.{to_z-of_z}
 use Rattle.std.proofs.lemmas.List.{get_or_default}
 use Rattle.lop_cuts.specs.declared.kind.CutKind.TheVariants.{Dicycle}

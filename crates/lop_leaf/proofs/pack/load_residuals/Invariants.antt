@@ -1,7 +1,8 @@
 use Rattle.std.proofs.Common.{◌≡◌, ◌≢◌, ℕ, ◌*◌, ◌<◌, [], length}
 use Rattle.lop_cuts.specs.Lagrangian.{reduced_entry}
 use Rattle.lop_leaf.specs.Packing.{residual}
-use Rattle.lop_leaf.specs.Table.{cell, IsResidualWord}
+use Rattle.lop_leaf.specs.Table.{IsResidualWord}
+use Rattle.lop_model.specs.Cells.{cell}
 use Rattle.lop_leaf.proofs.pack.load_residuals.Given as goal
 
 abbrev pub invariant-loop-a : goal.invariant-loop-a

@@ -3,8 +3,9 @@ use Rattle.std.proofs.lemmas.Bool.{cases_eq}
 use Rattle.std.proofs.lemmas.List.{length-set}
 use Rattle.lop_cuts.specs.Lagrangian.{reduced_entry}
 use Rattle.lop_leaf.specs.Packing.{residual}
-use Rattle.lop_leaf.specs.Table.{cell, IsResidualWord}
-use Rattle.lop_leaf.proofs.CellLemmas.{read_here, read_elsewhere}
+use Rattle.lop_leaf.specs.Table.{IsResidualWord}
+use Rattle.lop_model.specs.Cells.{cell}
+use Rattle.lop_model.proofs.CellLemmas.{read_here, read_elsewhere}
 use Rattle.lop_leaf.proofs.pack.load_row.Goals as goal
 
 pub loop-b-preserved : goal.loop-b-preserved

@@ -1,4 +1,4 @@
-use Rattle.lop_leaf.specs.Table.{cell}
+use Rattle.lop_model.specs.Cells.{cell}
 use Rattle.lop_leaf.proofs.PackingLemmas.{lowered_cycle}
 use Rattle.lop_leaf.proofs.pack.lower_cycle.Goals as goal
 

@@ -1,5 +1,5 @@
 use Rattle.std.proofs.Common.{◌≡◌, sym, arith}
-use Rattle.lop_leaf.specs.Table.{cell}
+use Rattle.lop_model.specs.Cells.{cell}
 use Rattle.lop_leaf.proofs.StillLemmas.{triple_forth, triple_back}
 use Rattle.lop_leaf.proofs.pack.pack_both.Goals as goal
 

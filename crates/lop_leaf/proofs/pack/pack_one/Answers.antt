@@ -5,7 +5,8 @@ use Rattle.lop_cuts.specs.Kind.{FitsCut}
 use Rattle.lop_cuts.specs.declared.kind.CutKind.{CutKind}
 use Rattle.lop_cuts.specs.declared.kind.CutKind.TheVariants.{Dicycle}
 use Rattle.lop_model.specs.Fixings.{has_pair}
-use Rattle.lop_leaf.specs.Table.{cell, lowered}
+use Rattle.lop_leaf.specs.Table.{lowered}
+use Rattle.lop_model.specs.Cells.{cell}
 use Rattle.lop_leaf.proofs.ResidualLemmas.{pack_cycle-taken, pack_cycle-none, pack_cycle-full}
 use Rattle.lop_leaf.proofs.PackingLemmas.{least_is, packing_step, spent_cycle}
 use Rattle.lop_leaf.proofs.SpentLemmas.{later_same, later_step, spent_none}

@@ -3,7 +3,7 @@ use Rattle.lop_model.specs.Fixings.{IsBranchingPrefix, IsClosure}
 use Rattle.lop_model.specs.declared.pair.Pair.{Pair}
 use Rattle.lop_model.proofs.ClosureLemmas.{IsClosure-through, IsUndecided-closure, IsBranchingPrefix-more, HaveSameExtensions-closure}
 use Rattle.std.proofs.lemmas.List.{take_all, take_more, get_or_default}
-use Rattle.lop_fix.specs.Table.{pair}
+use Rattle.lop_model.specs.Related.{pair}
 use Rattle.lop_fix.proofs.fixings.Fixings.of_path.Goals as goal
 
 pub loop-k-preserved : goal.loop-k-preserved

@@ -12,7 +12,7 @@ use lop_climb::{ClimbRoom, climb, start_order};
 use lop_core::{Core, TakeReply};
 use lop_leaf::{Evaluated, Ticket};
 use lop_model::Weights;
-use lop_node::{Judge, PackJudge};
+use lop_node::{CutJudge, Judge};
 use std::alloc::{AllocError, Global};
 use std::marker::Model;
 
@@ -22,7 +22,7 @@ const WORKER: u32 = 0;
 /// What a worker needs: a judge, and the rooms for what it is handed and what it finds.
 #[derive(Drop)]
 struct Worker {
-    judge: PackJudge,
+    judge: CutJudge,
     ticket: Ticket,
     found: Evaluated,
 }
@@ -39,10 +39,12 @@ impl Model for Worker {
 
 impl Worker {
     fn new(alloc: Global, n: u16) -> Result<Self, AllocError>
+        requires positive { 1 ≤ n }
+        requires within_limit { n ≤ 512 }
         ensures { IfOk result (λ worker. worker ≡ n) }
     {
         Ok(Worker {
-            judge: PackJudge::new(alloc, n)?,
+            judge: CutJudge::new(alloc, n)?,
             ticket: Ticket::new(alloc, n)?,
             found: Evaluated::new(alloc, n)?,
         })

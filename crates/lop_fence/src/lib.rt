@@ -1,0 +1,12 @@
+//! Separation of k-fence inequalities: a greedy search for some that a point violates.
+#![tactic(auto)]
+
+mod fences;
+mod growth;
+mod offer;
+mod work;
+
+pub use fences::violated_fences;
+
+#[cfg(test)]
+mod tests;

@@ -1,4 +1,4 @@
-use Rattle.std.proofs.Common.{◌≡◌, arith}
+use Rattle.std.proofs.Common.{arith}
 use Rattle.lop_fence.proofs.GainLemmas.{gains_then}
 use Rattle.lop_fence.proofs.fences.grow.Goals as goal
 

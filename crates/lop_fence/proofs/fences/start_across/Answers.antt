@@ -1,4 +1,3 @@
-use Rattle.std.proofs.Common.{◌≡◌}
 use Rattle.lop_fence.proofs.GainLemmas.{gains_then}
 use Rattle.lop_fence.proofs.fences.start_across.Goals as goal
 

@@ -8,7 +8,6 @@ use std::test::Fail;
 #[test]
 fn a_ring_of_five(rt: HostRuntime) -> Result<(), Fail> {
     let mut room = RingRoom::new(rt.alloc(), 5)?;
-    assert_eq!(rt; room.n(), 5);
     let one = Point::ONE;
     let rows = [
         (one, 0, 0),
@@ -25,6 +24,7 @@ fn a_ring_of_five(rt: HostRuntime) -> Result<(), Fail> {
         point.set(4, 2, value);
         point.set(0, 3, value);
         point.set(1, 4, value);
+        assert_eq!(rt; room.n(), point.n());
         assert_eq!(rt;
             violated_ladders(&point, limit, &mut list, &mut room),
             wanted

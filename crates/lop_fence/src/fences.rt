@@ -94,7 +94,7 @@ fn start_all(point: &Point, work: &mut Work, list: &mut CutList, from: usize, un
 /// Appends fences that the point violates, at most `limit` of them and no two equal, and says how many. Greedy: from
 /// each of at most 64 arcs with values from 1/4 to 3/4 a fence grows post by post, by what a post's arcs gain, and is
 /// tested from 3 posts on. Where there are fewer such arcs than 64, those above 3/4 serve as well. It takes no memory,
-/// and looks at no more than 2^20 arcs as posts: about 1 ms.
+/// and looks at no more than 2^20 arcs as posts.
 pub fn violated_fences(point: &Point, limit: usize, list: &mut CutList) -> usize
     requires { limit + length list.old.cuts ≤ list.old.room }
     ensures count { length list.new.cuts ≡ length list.old.cuts + result }

@@ -13,7 +13,7 @@ use Rattle.lop_model.specs.Matrix.{Matrix}
 use Rattle.lop_core.specs.Machine.{state_bound}
 use Rattle.lop_certtext.specs.Answer.{CheckAnswer, accepted}
 use Rattle.lop_certtext.specs.Certificate.{Certificate, certificate_text, IsTreeCertificate}
-use Rattle.lop_certtext.proofs.AcceptedText.{check_answer-certificate_text}
+use Rattle.lop_certtext.proofs.AcceptedText.{IsCheckAnswer-certificate_text}
 use Rattle.lop_report.specs.Lines.{is_optimal}
 use Rattle.lop_words.specs.declared.command.Command.{Command}
 use Rattle.lop_words.specs.declared.command.Command.TheVariants.{Solve, Check}
@@ -70,7 +70,7 @@ left_accepted format file name nodes w v optimal text left apart few s files =
     let made : NamedFile = record { name = name; bytes = certificate_text c } in
     let holds : IsTreeCertificate s.input.weights c = subst (λ (C : Matrix). IsTreeCertificate C c) s.search.weights_are s.left_is.true_of.holds in
     let short = length-certificate_of s.input.weights nodes s.found s.core c few s.search s.left_is.true_of.of_core s.left_is.true_of.holds in
-    let answer : IsAnswerFor s.input.weights (certificate_text c) (accepted c.value c.bound) = check_answer-certificate_text s.input.weights s.search.searched.weights c holds short in
+    let answer : IsAnswerFor s.input.weights (certificate_text c) (accepted c.value c.bound) = IsCheckAnswer-certificate_text s.input.weights s.search.searched.weights c holds short in
     let value : c.value ≡ s.found.value = s.left_is.true_of.of_core.value_is ∙ ap (λ (x : Found). x.value) (sym s.search.found_is) in
     let bound : c.bound ≡ s.found.bound = s.left_is.true_of.of_core.bound_is ∙ ap (λ (x : Found). x.bound) (sym s.search.found_is) in
     let numbers : accepted c.value c.bound ≡ accepted s.found.value s.found.bound = ap (λ (x : ℤ). accepted x c.bound) value ∙ ap (accepted s.found.value) bound in record {

@@ -5,6 +5,7 @@ use Rattle.lop_desk.specs.Desk.{IsThere, IsMissing}
 use Rattle.lop_desk.proofs.Printing.{rose_from}
 use Rattle.lop_model.specs.Matrix.{Matrix}
 use Rattle.lop_certtext.specs.Answer.{CheckAnswer, accepted, rejected, too_long}
+use Rattle.lop_certtext.proofs.Unique.{IsCheckAnswer-unique}
 use Rattle.lop_words.specs.declared.command.Command.{Command}
 use Rattle.lop_words.specs.declared.command.Command.TheVariants.{Check}
 use Rattle.lop_words.specs.declared.command.Format.{Format}
@@ -29,7 +30,7 @@ use Rattle.lop_tool.proofs.Stops.{any_second, told_files, told_map, told_both, t
 -- ---- the checker has one answer
 
 answer_once : (C : Matrix) (bytes : List ℕ) (a b : CheckAnswer) → IsAnswerFor C bytes a → IsAnswerFor C bytes b → a ≡ b
-answer_once C bytes a b first second = sym first ∙ second
+answer_once C bytes a b first second = IsCheckAnswer-unique C bytes a b first second
 
 given_once : (C : Matrix) (name : List ℕ) (files : List NamedFile) (a b : CheckAnswer) → GivesAnswer C name files a → GivesAnswer C name files b → a ≡ b
 given_once C name files a b first second =

@@ -1,5 +1,5 @@
 -- What the core of a finished search says of its weights.
-use Rattle.std.proofs.Common.{◌≡◌, ◌⊎◌, IsTrue, ℕ, ◌+◌, ◌*◌, [], ◌≤◌, List, ℤ, int_le, ◌≤ℤ◌, Bool, true, false, cond, ◌&&◌, inl, inr, refl, sym, ◌∙◌, ap, subst, arith}
+use Rattle.std.proofs.Common.{◌≡◌, ℕ, ◌+◌, ◌*◌, [], ◌≤◌, List, ℤ, int_le, ◌≤ℤ◌, Bool, true, false, cond, ◌&&◌, inl, inr, refl, sym, ◌∙◌, ap, subst, arith}
 use Rattle.std.proofs.lemmas.Int.{ints}
 use Rattle.lop_model.specs.Order.{IsOrder}
 use Rattle.lop_model.specs.Matrix.{Matrix, IsWeights, weight}
@@ -17,7 +17,7 @@ use Rattle.lop_core.proofs.CoreLemmas.{core_bound, prepared_true}
 use Rattle.lop_core.proofs.Monotone.{core_from_start, core_packed, core_packed_closed}
 use Rattle.lop_climb.specs.StartOrder.{IsBeckerOrder}
 use Rattle.lop_report.proofs.TotalLemmas.{within_limit}
-use Rattle.lop_climb.specs.Insertion.{IsClimb, IsInsertionOptimum}
+use Rattle.lop_climb.specs.Insertion.{IsClimbedFrom}
 use Rattle.lop_tool.specs.declared.solve.Solution.{Solution}
 use Rattle.lop_tool.specs.Input.{IsOfSize}
 use Rattle.lop_tool.specs.Search.{found_of, IsClimbed, IsSearched, IsPrepared, IsSearchOf}
@@ -25,15 +25,11 @@ use Rattle.lop_tool.specs.Solve.{IsPrintable}
 
 -- a climb that leads to a value leads to a greater one
 climbed_on : (C : Matrix) (v w : ℤ) → v ≤ℤ w → IsClimbed C v → IsClimbed C w
-climbed_on C v w more c = record { start = c.start; is_start = c.is_start; order = c.order; moves = c.moves; climb = c.climb; top = c.top; least = let old = c.least in omega (arith, ints, old, more) }
+climbed_on C v w more c = record { start = c.start; is_start = c.is_start; order = c.order; climb = c.climb; least = let old = c.least in omega (arith, ints, old, more) }
 
--- what a climb from the Becker order reached, which stopped or came to the top
-pub climbed_from : (C : Matrix) (start order : List ℕ) (moves : ℕ) (settled : Bool) → IsBeckerOrder C start → IsClimb C start moves order → (IsTrue settled → IsInsertionOptimum C order) → (settled ≡ false → moves ≡ 10 * C.size * C.size) → IsClimbed C (weight C order)
-climbed_from C start order moves settled becker climb top stopped = record { start = start; is_start = becker; order = order; moves = moves; climb = climb; top = by settled top stopped; least = grind (arith, ints) }
-  where
-    by : (b : Bool) → (IsTrue b → IsInsertionOptimum C order) → (b ≡ false → moves ≡ 10 * C.size * C.size) → IsInsertionOptimum C order ⊎ (moves ≡ 10 * C.size * C.size)
-    by true top stopped = inl (top refl)
-    by false top stopped = inr (stopped refl)
+-- what a climb from the Becker order reached
+pub climbed_from : (C : Matrix) (start order : List ℕ) → IsBeckerOrder C start → IsClimbedFrom C start order → IsClimbed C (weight C order)
+climbed_from C start order becker climb = record { start = start; is_start = becker; order = order; climb = climb; least = grind (arith, ints) }
 
 of_core : (core : CoreFields) → IsPrepared core → HasHistory core → IsFinished core.problem core.state → state_bound core.state ≤ℤ packing_bound core.problem.weights [] → IsSearched core.problem.weights core.problem.budget (found_of core)
 of_core core p h f packed = record {

@@ -4,7 +4,7 @@ use Rattle.lop_desk.specs.World.{World, NamedFile, file_named, unread}
 use Rattle.lop_desk.specs.Causes.{Rose}
 use Rattle.lop_desk.specs.Desk.{IsMissing}
 use Rattle.lop_model.specs.Matrix.{Matrix, IsUpperBound}
-use Rattle.lop_certtext.specs.Answer.{CheckAnswer, accepted, rejected, too_long, check_answer}
+use Rattle.lop_certtext.specs.Answer.{CheckAnswer, accepted, rejected, too_long, IsCheckAnswer}
 use Rattle.lop_check.specs.Verdict.{IsWeighed}
 use Rattle.lop_report.specs.Lines.{is_optimal}
 use Rattle.lop_report.specs.AnswerText.{accepted_text}
@@ -26,7 +26,7 @@ use Rattle.lop_tool.specs.Input.{input_named}
 
 -- this is the checker's answer for the bytes
 abbrev pub IsAnswerFor : Matrix → List ℕ → CheckAnswer → Type 0
-IsAnswerFor C bytes answer = check_answer C bytes ≡ answer
+IsAnswerFor C bytes answer = IsCheckAnswer C bytes answer
 
 -- the checker's answer for the bytes under a name
 pub record GivesAnswer (C : Matrix) (name : List ℕ) (files : List NamedFile) (answer : CheckAnswer) : Type 0 where

@@ -29,7 +29,8 @@ Faulted command old before now = Any (IsMissing old) (reads_of command) ⊎ Rose
 -- how a run ended: with a reply, with a part of one, by a fault before it, or for want of memory
 pub data Ended (command : Option Command) (old new : Option World) (before now n : ℕ) : Type 0 where
   replied : (s : Status) (text : List ℕ) (left : Option NamedFile) → IsReply (files_of old) command s text left → n ≡ number s → Leaves text left old new → Ended command old new before now n
-  cut_off : (s : Status) (text : List ℕ) (left : Option NamedFile) (k : ℕ) → IsReply (files_of old) command s text left → n ≡ number status.Fault → Faulted command old before now → Leaves (take k text) left old new → Ended command old new before now n
+  cut_off : (s : Status) (text : List ℕ) (left : Option NamedFile) (k : ℕ)
+      → IsReply (files_of old) command s text left → n ≡ number status.Fault → Faulted command old before now → Leaves (take k text) left old new → Ended command old new before now n
   faulted : n ≡ number status.Fault → Faulted command old before now → LeavesAll old new → Ended command old new before now n
   lacked : n ≡ number status.Memory → LeavesAll old new → Ended command old new before now n
 

@@ -21,13 +21,16 @@ use Rattle.lop_tool.specs.Gen.{Generates}
 pub data IsDone (told : Option (List NamedFile)) : Command → Bool → List ℕ → Option NamedFile → Type 0 where
   solved : {format : Format} {file : List ℕ} {nodes : ℕ} {cert : Option (List ℕ)} {optimal : Bool} {text : List ℕ} {left : Option NamedFile}
       → Solves format file nodes cert told optimal text left → IsDone told (Solve format file nodes cert) optimal text left
-  accepted : {format : Format} {file cert : List ℕ} {optimal : Bool} {text : List ℕ} {left : Option NamedFile} → Accepts format file cert told optimal text left → IsDone told (Check format file cert) optimal text left
-  weighed : {format : Format} {file order_file : List ℕ} {optimal : Bool} {text : List ℕ} {left : Option NamedFile} → Weighs format file order_file told optimal text left → IsDone told (Value format file order_file) optimal text left
+  accepted : {format : Format} {file cert : List ℕ} {optimal : Bool} {text : List ℕ} {left : Option NamedFile}
+      → Accepts format file cert told optimal text left → IsDone told (Check format file cert) optimal text left
+  weighed : {format : Format} {file order_file : List ℕ} {optimal : Bool} {text : List ℕ} {left : Option NamedFile}
+      → Weighs format file order_file told optimal text left → IsDone told (Value format file order_file) optimal text left
   generated : {seed n : ℕ} {optimal : Bool} {text : List ℕ} {left : Option NamedFile} → Generates seed n optimal text left → IsDone told (Gen seed n) optimal text left
 
 -- a right reply: its status, its text, and the file that is left, if there is one
 pub data IsReply (told : Option (List NamedFile)) : Option Command → Status → List ℕ → Option NamedFile → Type 0 where
-  done : {command : Command} {optimal : Bool} {text : List ℕ} {left : Option NamedFile} → IfSome told (IsAccepted command) → IsDone told command optimal text left → IsReply told (Some command) (done_status optimal) text left
+  done : {command : Command} {optimal : Bool} {text : List ℕ} {left : Option NamedFile}
+      → IfSome told (IsAccepted command) → IsDone told command optimal text left → IsReply told (Some command) (done_status optimal) text left
   rejected : {command : Command} {text : List ℕ} (rejection : Rejection) → IsRejection command told rejection → text ≡ rejection_line rejection → IsReply told (Some command) status.Rejected text None
   refused_input : {command : Command} {text : List ℕ} (refusal : Refusal) → IsFirstRefusal command told refusal → text ≡ refusal_line refusal → IsReply told (Some command) status.Refused text None
   refused_words : {text : List ℕ} → text ≡ words_line → IsReply told None status.NoCommand text None

@@ -44,10 +44,12 @@ SolvesFile command old new n =
     (format : Format) (file : List ℕ) (nodes : ℕ) (cert : Option (List ℕ)) → command ≡ Some (Solve format file nodes cert) → IsDoneNumber n → DoneBy (Solves format file nodes cert (files_of old)) old new n
 
 abbrev pub AcceptsCertificate : Option Command → Option World → Option World → ℕ → Type 0
-AcceptsCertificate command old new n = (format : Format) (file cert : List ℕ) → command ≡ Some (Check format file cert) → IsDoneNumber n → DoneBy (Accepts format file cert (files_of old)) old new n
+AcceptsCertificate command old new n =
+    (format : Format) (file cert : List ℕ) → command ≡ Some (Check format file cert) → IsDoneNumber n → DoneBy (Accepts format file cert (files_of old)) old new n
 
 abbrev pub WeighsOrder : Option Command → Option World → Option World → ℕ → Type 0
-WeighsOrder command old new n = (format : Format) (file order_file : List ℕ) → command ≡ Some (Value format file order_file) → IsDoneNumber n → DoneBy (Weighs format file order_file (files_of old)) old new n
+WeighsOrder command old new n =
+    (format : Format) (file order_file : List ℕ) → command ≡ Some (Value format file order_file) → IsDoneNumber n → DoneBy (Weighs format file order_file (files_of old)) old new n
 
 abbrev pub GeneratesWeights : Option Command → Option World → Option World → ℕ → Type 0
 GeneratesWeights command old new n = (seed k : ℕ) → command ≡ Some (Gen seed k) → IsDoneNumber n → DoneBy (Generates seed k) old new n

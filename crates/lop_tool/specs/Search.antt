@@ -1,10 +1,10 @@
 -- What a search found.
-use Rattle.std.specs.Prelude.{◌≡◌, ◌⊎◌, ℕ, ◌+◌, ◌*◌, ◌≤◌, List, [], ℤ, ◌≤ℤ◌, ◌<ℤ◌}
+use Rattle.std.specs.Prelude.{◌≡◌, ℕ, ◌+◌, ◌*◌, ◌≤◌, List, [], ℤ, ◌≤ℤ◌, ◌<ℤ◌}
 use Rattle.lop_model.specs.Order.{IsOrder}
 use Rattle.lop_model.specs.Matrix.{Matrix, IsWeights, weight, IsUpperBound}
 use Rattle.lop_leaf.specs.Packing.{packing_bound}
 use Rattle.lop_climb.specs.StartOrder.{IsBeckerOrder}
-use Rattle.lop_climb.specs.Insertion.{IsClimb, IsInsertionOptimum}
+use Rattle.lop_climb.specs.Insertion.{IsClimbedFrom}
 use Rattle.lop_core.specs.AllOrders.{factorial}
 use Rattle.lop_core.specs.Machine.{state_bound}
 use Rattle.lop_core.specs.Core.{CoreFields, HasHistory}
@@ -21,15 +21,13 @@ pub record Found : Type 0 where
 abbrev pub found_of : CoreFields → Found
 found_of core = record { order = core.order; value = core.state.best; bound = state_bound core.state; nodes = core.state.evaluated }
 
--- the value is at least the weight of an order that insertions lead to from the Becker order, each of which gains, and
--- that no insertion betters unless the climb stopped after 10 n² of them
+-- the value is at least the weight of an order that a climb from the Becker order leads to: by insertions that each gain,
+-- and which no insertion betters unless the climb stopped after 10 n² of them
 pub record IsClimbed (C : Matrix) (value : ℤ) : Type 0 where
   pub start : List ℕ
   pub is_start : IsBeckerOrder C start
   pub order : List ℕ
-  pub moves : ℕ
-  pub climb : IsClimb C start moves order
-  pub top : IsInsertionOptimum C order ⊎ (moves ≡ 10 * C.size * C.size)
+  pub climb : IsClimbedFrom C start order
   pub least : weight C order ≤ℤ value
 
 -- the numbers are those of a finished run of the search with this budget: the value is the order's weight, no order

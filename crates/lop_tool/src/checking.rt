@@ -134,7 +134,7 @@ fn check_opened<D: Desk>(
     desk: &mut D,
     room: &mut CheckRoom,
 ) -> Result<Outcome, Stop>
-    requires same_n { room.old ≡ weights.now.size }
+    requires same_n { room.old.size ≡ weights.now.size }
     requires opened { IsOpen (D.told desk.old) }
     ensures world { OnlyOpens (D.told desk.old) (D.told desk.new) }
     ensures later { D.faults desk.old ≤ D.faults desk.new }

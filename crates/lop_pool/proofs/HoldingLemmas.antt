@@ -1,0 +1,242 @@
+-- What a worker holds stays so, whatever the others do.
+use Rattle.std.proofs.Common.{◌≡◌, ◌≢◌, ℕ, ◌+◌, ◌<◌, ◌≤◌, ◌⊎◌, inl, inr, List, [], ◌∷◌, ◌++◌, length, arith, sym, ◌∙◌, Some, None, Option, refl, ap, subst, Bool, true, false, cond, zero, suc}
+use Rattle.std.specs.Prelude.{slice_get, ℤ, pos, ◌≤ℤ◌, Any, map, filter, ◌==◌, int_lt}
+use Rattle.std.specs.Int.{int_max}
+use Rattle.std.proofs.lemmas.Int.{ints, clamps}
+use Rattle.std.proofs.lemmas.Bool.{false≢true, eqb-true}
+use Rattle.std.proofs.lemmas.List.Sums.{sum_by-cons}
+use Rattle.lop_model.specs.declared.pair.Pair.{Pair}
+use Rattle.lop_model.specs.Matrix.{Matrix}
+use Rattle.lop_leaf.specs.Ticket.{TicketFields}
+use Rattle.lop_leaf.specs.Evaluated.{EvaluatedFields}
+use Rattle.lop_leaf.specs.Sound.{IsSoundTicket, IsSoundResult}
+use Rattle.lop_core.specs.declared.node.SearchNode.{SearchNode}
+use Rattle.lop_core.specs.declared.node.Standing.{Standing}
+use Rattle.lop_core.specs.declared.node.Standing.TheVariants.{Idle, Out, Split}
+use Rattle.lop_core.specs.declared.journal.Entry.{Entry}
+use Rattle.lop_core.specs.declared.journal.Entry.TheVariants.{Take, Report}
+use Rattle.lop_core.specs.declared.reply.TakeReply.{TakeReply}
+use Rattle.lop_core.specs.declared.reply.TakeReply.TheVariants.{Node, Done, AllOut, Spent}
+use Rattle.lop_core.specs.Tree.{node_at, path_of, is_out, is_split, out_count}
+use Rattle.lop_core.specs.Machine.{Problem, SearchState, closed, divided, settled, after, IsOutTo, IsLive, IsReady}
+use Rattle.lop_core.specs.Journal.{replay, worker_of, entries_of, takes, HasTake, HasReport, IsLawfulJournal}
+use Rattle.lop_core.specs.Core.{CoreFields, HasHistory, IsTake, OnNode, IsTicketOf, IsSoundReport, IsReported, with_entry, entry_of, has_room_for, ticket_of}
+use Rattle.lop_core.specs.Workers.{StandsStill}
+use Rattle.lop_core.proofs.Lists.{EachFollows-push}
+use Rattle.lop_core.proofs.Sound.{one_if, count_changed}
+use Rattle.lop_core.proofs.Fates.{out_exactly}
+use Rattle.lop_core.proofs.CoreLemmas.{core_out, core_counted}
+use Rattle.lop_core.proofs.Alone.{ready_alone}
+use Rattle.lop_core.proofs.Workers.{lawful_start, Any_more, report_apart, out_stands_still}
+use Rattle.lop_pool.specs.declared.event.Event.{Event}
+use Rattle.lop_pool.specs.declared.end.SearchEnd.TheVariants as ends
+use Rattle.lop_pool.specs.Events.{events_of, event_worker, events_by, IsGrown}
+use Rattle.lop_pool.specs.Judged.{Relation, IsJudged, AreJudged, IsJudgedResult}
+use Rattle.lop_pool.specs.Holding.{HasNone, HasOnly, HasTicket, HasResult, Holds, WhateverElse}
+use Rattle.lop_pool.specs.Ends.{NoneLive, IsSpent, IsEnd}
+use Rattle.lop_pool.proofs.EventLemmas.{entries_told, same_entries, IsIn, in_filter, in_prefix, took_at, is_take, took_cases, took_last, grown_same, grown_push}
+
+-- ---- two journals in which a worker's events are the same
+
+at_take : (problem : Problem) (h : List Entry) (worker node : ℕ) (v : Event) → IsLawfulJournal problem h → IsOutTo (replay problem h) worker node → IsIn v (events_of h) → v.entry ≡ Take worker node
+    → StandsStill (replay problem (v.before ++ Take worker node ∷ [])) (replay problem h) node
+at_take problem h worker node v lawful out there is =
+    let r = in_prefix v [] h there in
+    let split : h ≡ (v.before ++ Take worker node ∷ []) ++ r.0 = r.1 ∙ ap (λ (e : Entry). (v.before ++ e ∷ []) ++ r.0) is in
+    let whole : IsLawfulJournal problem ((v.before ++ Take worker node ∷ []) ++ r.0) = subst (IsLawfulJournal problem) split lawful in
+    let late : IsOutTo (replay problem ((v.before ++ Take worker node ∷ []) ++ r.0)) worker node = subst (λ (j : List Entry). IsOutTo (replay problem j) worker node) split out in
+    let first : IsLawfulJournal problem (v.before ++ Take worker node ∷ []) = lawful_start problem (v.before ++ Take worker node ∷ []) r.0 whole in
+    let held = (out_exactly problem ((v.before ++ Take worker node ∷ []) ++ r.0) worker node whole).0 late in
+    let early : IsOutTo (replay problem (v.before ++ Take worker node ∷ [])) worker node =
+    (out_exactly problem (v.before ++ Take worker node ∷ []) worker node first).1 (took_last worker node v.before, λ q. held.1 (Any_more worker (v.before ++ Take worker node ∷ []) r.0 q)) in
+    subst (λ (j : List Entry). StandsStill (replay problem (v.before ++ Take worker node ∷ [])) (replay problem j) node) (sym split)
+    (out_stands_still problem (v.before ++ Take worker node ∷ []) r.0 worker node whole early late)
+
+-- a node that is out to the worker in the one is so in the other, with the same bound and path
+record IsAlike (h j : SearchState) (worker node : ℕ) : Type 0 where
+  is_out : IsOutTo j worker node
+  bound : (node_at j.nodes node).bound ≡ (node_at h.nodes node).bound
+  path : path_of j.nodes node ≡ path_of h.nodes node
+
+alike : (problem : Problem) (h j : List Entry) (worker node : ℕ) → IsLawfulJournal problem h → IsLawfulJournal problem j → events_by worker h ≡ events_by worker j → IsOutTo (replay problem h) worker node
+    → IsAlike (replay problem h) (replay problem j) worker node
+alike problem h j worker node lh lj e out =
+    let held = (out_exactly problem h worker node lh).0 out in
+    let es = same_entries worker h j e in
+    let out_j : IsOutTo (replay problem j) worker node = (out_exactly problem j worker node lj).1 (subst (HasTake node) es held.0, λ r. held.1 (subst (HasReport node) (sym es) r)) in
+    let told : HasTake node (map (λ (u : Event). u.entry) (events_by worker h)) = subst (HasTake node) (entries_told worker h) held.0 in
+    let found = took_at node (events_by worker h) told.0 told.1 told.2 told.3 told.4 in
+    let v : Event = found.0 in
+    let in_h = in_filter (λ (u : Event). event_worker u == worker) found.0 (events_of h) found.1 in
+    let in_j = in_filter (λ (u : Event). event_worker u == worker) found.0 (events_of j) (subst (IsIn found.0) e found.1) in
+    let is : found.0.entry ≡ Take worker node = is_take worker node found.0.entry (eqb-true (event_worker found.0) worker in_h.1) found.2 in
+    let at_h = at_take problem h worker node found.0 lh out in_h.0 is in
+    let at_j = at_take problem j worker node found.0 lj out_j in_j.0 is in
+    record { is_out = out_j; bound = at_j.bound ∙ sym at_h.bound; path = at_j.path ∙ sym at_h.path }
+
+pub none_kept : (problem : Problem) (journal : List Entry) (worker : ℕ) → IsLawfulJournal problem journal → HasNone worker (replay problem journal) → WhateverElse problem worker (events_by worker journal) (HasNone worker)
+none_kept problem journal worker lawful none = λ j lj e node out. none node (alike problem j journal worker node lj lawful e out).is_out
+
+pub ticket_kept : (problem : Problem) (journal : List Entry) (worker : ℕ) (t : TicketFields) → IsLawfulJournal problem journal → HasTicket worker t (replay problem journal) → WhateverElse problem worker (events_by worker journal) (HasTicket worker t)
+ticket_kept problem journal worker t lawful has = λ j lj e.
+    let same = alike problem journal j worker t.node lawful lj (sym e) has.only.is_out in
+    record {
+      only = record { is_out = same.is_out; only = λ other out. has.only.only other (alike problem j journal worker other lj lawful e out).is_out };
+      bound = has.bound ∙ sym same.bound;
+      path = has.path ∙ sym same.path;
+    }
+
+-- ---- what a judge found
+
+pub judged_result : (judged : Relation) (C : Matrix) (s : SearchState) (t : TicketFields) (found : EvaluatedFields) → t.bound ≡ (node_at s.nodes t.node).bound → t.path ≡ path_of s.nodes t.node
+    → IsSoundResult C t found → judged C t.path found.bound found.pair found.value → IsJudgedResult judged C s found
+judged_result judged C s t found bound path sound shown = record {
+  ticket = t;
+  bound = bound ∙ ap (λ (k : ℕ). (node_at s.nodes k).bound) (sym sound.node);
+  path = path ∙ ap (λ (k : ℕ). path_of s.nodes k) (sym sound.node);
+  sound = sound;
+  shown = shown;
+}
+
+-- the worker of a ticket holds the result that its judge found
+pub has_result : (judged : Relation) (C : Matrix) (worker : ℕ) (t : TicketFields) (found : EvaluatedFields) (s : SearchState) → HasTicket worker t s
+    → IsSoundResult C t found → judged C t.path found.bound found.pair found.value → HasResult judged C worker found s
+has_result judged C worker t found s has sound shown = record {
+  only = subst (λ (k : ℕ). HasOnly worker k s) (sym sound.node) has.only;
+  result = judged_result judged C s t found has.bound has.path sound shown;
+}
+
+pub sound_report : (judged : Relation) (core : CoreFields) (found : EvaluatedFields) → IsJudgedResult judged core.problem.weights core.state found → IsSoundReport core found
+sound_report judged core found r = record { ticket = r.ticket; is_of = record { bound = r.bound; path = r.path }; sound = r.sound }
+
+-- ---- every report of the journal came from a judge
+
+pub take_judged : (judged : Relation) (old new : CoreFields) (blank ticket : TicketFields) (worker : ℕ) (r : TakeReply) → IsTake old blank worker r new ticket → AreJudged judged old.problem old.journal → AreJudged judged new.problem new.journal
+take_judged judged old new blank ticket worker Node step h =
+    subst (λ (x : CoreFields). AreJudged judged x.problem x.journal) (sym step.1) (EachFollows-push (IsJudged judged old.problem) old.journal (Take worker ticket.node) h tt)
+take_judged judged old new blank ticket worker Done step h = subst (λ (x : CoreFields). AreJudged judged x.problem x.journal) (sym step.1.0) h
+take_judged judged old new blank ticket worker AllOut step h = subst (λ (x : CoreFields). AreJudged judged x.problem x.journal) (sym step.2.0) h
+take_judged judged old new blank ticket worker Spent step h = subst (λ (x : CoreFields). AreJudged judged x.problem x.journal) (sym step.2.0) h
+
+pub report_judged : (judged : Relation) (old new : CoreFields) (worker : ℕ) (found : EvaluatedFields) → IsReported old worker found new → HasHistory old → IsJudgedResult judged old.problem.weights old.state found
+    → AreJudged judged old.problem old.journal → AreJudged judged new.problem new.journal
+report_judged judged old new worker found told history result h =
+    let path : result.ticket.path ≡ path_of (replay old.problem old.journal).nodes found.node = result.path ∙ ap (λ (s : SearchState). path_of s.nodes found.node) history.replayed in
+    let one : judged old.problem.weights (path_of (replay old.problem old.journal).nodes found.node) found.bound found.pair found.value =
+    subst (λ (p : List Pair). judged old.problem.weights p found.bound found.pair found.value) path result.shown in
+    subst (λ (x : CoreFields). AreJudged judged x.problem x.journal) (sym told.noted) (EachFollows-push (IsJudged judged old.problem) old.journal (entry_of old worker found) h one)
+
+-- ---- which nodes are out
+
+pub no_out : (s : SearchState) → out_count s.nodes ≡ 0 → (worker : ℕ) → HasNone worker s
+no_out s none worker node out =
+    let one : one_if (is_out out.0.standing) ≡ 1 = ap (λ (x : Standing). one_if (is_out x)) out.2 in
+    absurd (omega (arith, count_changed is_out s.nodes node out.0 (pos 0) Idle out.1))
+
+count_none : (nodes : List SearchNode) → ((i : ℕ) (x : SearchNode) → slice_get nodes i ≡ Some x → is_out x.standing ≡ false) → out_count nodes ≡ 0
+count_none [] each = refl
+count_none (x ∷ nodes) each =
+    let all : out_count (x ∷ nodes) ≡ one_if (is_out x.standing) + out_count nodes = sum_by-cons (λ (m : SearchNode). one_if (is_out m.standing)) x nodes in
+    let first : one_if (is_out x.standing) ≡ 0 = ap one_if (each 0 x refl) in
+    let rest : out_count nodes ≡ 0 = count_none nodes (λ i y e. each (suc i) y e) in
+    omega (arith, all, first, rest)
+
+standing_in : (s : SearchState) (i : ℕ) (x : SearchNode) (standing : Standing) → ((worker : ℕ) → HasNone worker s) → slice_get s.nodes i ≡ Some x → x.standing ≡ standing → is_out x.standing ≡ false
+standing_in s i x Idle none there e = ap is_out e
+standing_in s i x (Split first) none there e = ap is_out e
+standing_in s i x (Out w) none there e = absurd (none w i (x, there, e))
+
+-- where no worker has a node, none is out
+pub none_counted : (s : SearchState) → ((worker : ℕ) → HasNone worker s) → out_count s.nodes ≡ 0
+none_counted s none = count_none s.nodes (λ i x there. standing_in s i x x.standing none there refl)
+
+-- ---- a report, and a take
+
+pub report_grown : (old new : CoreFields) (worker : ℕ) (found : EvaluatedFields) → IsReported old worker found new → IsGrown worker old.journal new.journal
+report_grown old new worker found told = grown_push worker old.journal new.journal (entry_of old worker found) (ap (λ (x : CoreFields). x.journal) told.noted) refl
+
+settled_best : (s : SearchState) (node : ℕ) (bound best : ℤ) (pair : Option Pair) → (settled s node bound best pair).best ≡ best
+settled_best s node bound best None = refl
+settled_best s node bound best (Some p) = go (int_lt best bound) where
+  go : (b : Bool) → (cond b (divided s node bound best p) (closed s node bound best)).best ≡ best
+  go true = refl
+  go false = refl
+
+best_rises : (s : SearchState) (e : Entry) → s.best ≤ℤ (after s e).best
+unfolding after
+best_rises s (Take worker node) = omega (arith, ints)
+best_rises s (Report worker node bound pair value room) =
+    subst (λ (z : ℤ). s.best ≤ℤ z) (sym (settled_best s node (cond room bound (node_at s.nodes node).bound) (int_max s.best value) pair)) (omega (arith, ints, clamps))
+
+pub report_best : (old new : CoreFields) (worker : ℕ) (found : EvaluatedFields) → IsReported old worker found new → old.state.best ≤ℤ new.state.best
+report_best old new worker found told = subst (λ (x : CoreFields). old.state.best ≤ℤ x.state.best) (sym told.noted) (best_rises old.state (entry_of old worker found))
+
+-- after its report the worker has no node
+pub report_none : (old new : CoreFields) (worker : ℕ) (found : EvaluatedFields) → HasHistory old → HasHistory new → IsReported old worker found new → HasOnly worker found.node old.state → HasNone worker new.state
+report_none old new worker found h g told only = λ node out.
+    let e : Entry = entry_of old worker found in
+    let later = (core_out new worker node g).0 out in
+    let grown : new.journal ≡ old.journal ++ entry_of old worker found ∷ [] = ap (λ (x : CoreFields). x.journal) told.noted in
+    let took : HasTake node (entries_of worker (old.journal ++ entry_of old worker found ∷ [])) = subst (λ (j : List Entry). HasTake node (entries_of worker j)) grown later.0 in
+    let open_still : ¬ (HasReport node (entries_of worker (old.journal ++ entry_of old worker found ∷ []))) = λ r. later.1 (subst (λ (j : List Entry). HasReport node (entries_of worker j)) (sym grown) r) in
+    elim (took_cases worker node old.journal (entry_of old worker found) took) [
+      inl t ↦
+        let before : IsOutTo old.state worker node = (core_out old worker node h).1 (t, λ r. open_still (Any_more worker old.journal (entry_of old worker found ∷ []) r)) in
+        report_apart old.state old.journal worker found.node found.bound found.pair found.value (has_room_for old found) worker node only.is_out before open_still (only.only node before)
+      | inr t ↦ absurd (false≢true t)
+    ]
+
+-- after its take a worker that had no node has that one alone
+pub take_only : (old new : CoreFields) (worker node : ℕ) → HasHistory old → HasHistory new → new ≡ with_entry old (Take worker node) old.order → IsOutTo new.state worker node → HasNone worker old.state → HasOnly worker node new.state
+take_only old new worker node h g noted is none = record {
+  is_out = is;
+  only = λ other out.
+      let later = (core_out new worker other g).0 out in
+      let grown : new.journal ≡ old.journal ++ Take worker node ∷ [] = ap (λ (x : CoreFields). x.journal) noted in
+      let took : HasTake other (entries_of worker (old.journal ++ Take worker node ∷ [])) = subst (λ (j : List Entry). HasTake other (entries_of worker j)) grown later.0 in
+      let open_still : ¬ (HasReport other (entries_of worker (old.journal ++ Take worker node ∷ []))) = λ r. later.1 (subst (λ (j : List Entry). HasReport other (entries_of worker j)) (sym grown) r) in
+      elim (took_cases worker other old.journal (Take worker node) took) [
+        inl t ↦ absurd (none other ((core_out old worker other h).1 (t, λ r. open_still (Any_more worker old.journal (Take worker node ∷ []) r))))
+        | inr t ↦ sym (eqb-true node other t)
+      ];
+}
+
+-- what a take leaves, whatever it replies
+pub record AfterTake (old new : CoreFields) (worker : ℕ) : Type 0 where
+  pub problem : new.problem ≡ old.problem
+  pub grown : IsGrown worker old.journal new.journal
+  pub best : old.state.best ≤ℤ new.state.best
+
+after_same : (old new : CoreFields) (worker : ℕ) → new ≡ old → AfterTake old new worker
+after_same old new worker e = subst (λ (x : CoreFields). AfterTake old x worker) (sym e) (record { problem = refl; grown = grown_same worker old.journal; best = omega (arith, ints) })
+
+pub after_take : (old new : CoreFields) (blank ticket : TicketFields) (worker : ℕ) (r : TakeReply) → IsTake old blank worker r new ticket → AfterTake old new worker
+after_take old new blank ticket worker Node step = record {
+  problem = ap (λ (x : CoreFields). x.problem) step.1;
+  grown = grown_push worker old.journal new.journal (Take worker ticket.node) (ap (λ (x : CoreFields). x.journal) step.1) refl;
+  best = subst (λ (x : CoreFields). old.state.best ≤ℤ x.state.best) (sym step.1) (best_rises old.state (Take worker ticket.node));
+}
+after_take old new blank ticket worker Done step = after_same old new worker step.1.0
+after_take old new blank ticket worker AllOut step = after_same old new worker step.2.0
+after_take old new blank ticket worker Spent step = after_same old new worker step.2.0
+
+-- the size of the ticket stays
+pub take_size : (old new : CoreFields) (blank ticket : TicketFields) (worker : ℕ) (r : TakeReply) → IsTake old blank worker r new ticket → blank.size ≡ old.problem.weights.size → ticket.size ≡ blank.size
+take_size old new blank ticket worker Node step e = ap (λ (t : TicketFields). t.size) step.2 ∙ sym e
+take_size old new blank ticket worker Done step e = ap (λ (t : TicketFields). t.size) step.1.1
+take_size old new blank ticket worker AllOut step e = ap (λ (t : TicketFields). t.size) step.2.1
+take_size old new blank ticket worker Spent step e = ap (λ (t : TicketFields). t.size) step.2.1
+
+-- ---- how a search ends
+
+pub end_done : (old new : CoreFields) (blank ticket : TicketFields) (worker : ℕ) → IsTake old blank worker Done new ticket → IsEnd new ends.Closed
+end_done old new blank ticket worker step = subst NoneLive (sym step.1.0) step.0
+
+pub end_spent : (old new : CoreFields) (blank ticket : TicketFields) (worker : ℕ) → HasHistory old → out_count old.state.nodes ≡ 0 → IsTake old blank worker Spent new ticket → IsEnd new ends.Spent
+end_spent old new blank ticket worker h none step =
+    let ready = step.0.1 in
+    let most = (core_counted old h).within in
+    subst IsSpent (sym step.2.0) ((step.0.0, record { it = ready.it; is_there = ready.is_there; unsplit = ap is_split ready.idle; above = ready.above }), omega (arith, most, step.1, none))
+
+pub never_all_out : (old new : CoreFields) (blank ticket : TicketFields) (worker : ℕ) → out_count old.state.nodes ≡ 0 → IsTake old blank worker AllOut new ticket → ⊥
+never_all_out old new blank ticket worker none step = step.1 step.0.0 (ready_alone old.state.nodes old.state.best step.0.0 none step.0.1)

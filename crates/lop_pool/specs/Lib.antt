@@ -1,0 +1,5 @@
+pub mod Events
+pub mod Judged
+pub mod Holding
+pub mod Workers
+pub mod Ends

@@ -240,3 +240,10 @@ end_spent old new blank ticket worker h none step =
 
 pub never_all_out : (old new : CoreFields) (blank ticket : TicketFields) (worker : ℕ) → out_count old.state.nodes ≡ 0 → IsTake old blank worker AllOut new ticket → ⊥
 never_all_out old new blank ticket worker none step = step.1 step.0.0 (ready_alone old.state.nodes old.state.best step.0.0 none step.0.1)
+
+-- a take that hands nothing out changes nothing
+pub untaken : (old new : CoreFields) (blank ticket : TicketFields) (worker : ℕ) (r : TakeReply) → IsTake old blank worker r new ticket → (r ≡ Node → ⊥) → new ≡ old
+untaken old new blank ticket worker Node step other = absurd (other refl)
+untaken old new blank ticket worker Done step other = step.1.0
+untaken old new blank ticket worker AllOut step other = step.2.0
+untaken old new blank ticket worker Spent step other = step.2.0

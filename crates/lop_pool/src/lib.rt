@@ -14,6 +14,8 @@ mod round;
 mod rounds;
 mod search;
 mod steps;
+#[cfg(test)]
+mod tests;
 mod worker;
 
 pub use end::SearchEnd;

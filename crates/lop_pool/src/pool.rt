@@ -89,7 +89,7 @@ impl<J: Judge> Pool<J> {
     {
         let _before = core.journal();
         let judged = JudgedCore::of(core);
-        let (judged, end) = search_with(&mut self.workers, weights, judged);
+        let (judged, end) = search_with(rt, alloc, &mut self.workers, weights, judged, gate);
         let core = judged.into_core();
         let _after = core.journal();
         (core, end)

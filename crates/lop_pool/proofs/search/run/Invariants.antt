@@ -1,4 +1,4 @@
-use Rattle.std.proofs.Common.{◌≡◌, ◌-◌, ◌≤◌, length}
+use Rattle.std.proofs.Common.{◌≡◌, ◌-◌, ◌≤◌, false, length}
 use Rattle.std.specs.Prelude.{All}
 use Rattle.lop_core.specs.Tree.{out_count}
 use Rattle.lop_pool.specs.Workers.{WorkerFits}
@@ -8,6 +8,7 @@ abbrev pub invariant-loop-end : goal.invariant-loop-end
 invariant-loop-end g l = record {
   len : length l.workers ≡ length l.fn.workers;
   fits : All (WorkerFits g.J.Judge.objects l.fn.weights.size) l.workers;
+  idle : All (λ w. w.has_result ≡ false) l.workers;
   same_problem : l.core.problem ≡ l.fn.core.problem;
   none_out : out_count l.core.state.nodes ≡ 0;
 }

@@ -1,0 +1,115 @@
+//! The pool on a three-fence: what a search leaves, and that workers run beside each other.
+ghost use Rattle.std.specs.Prelude.{◌≡◌, ◌≤◌, length, vec_len, All, OnOk};
+
+use crate::{Gate, OpenGate, Pool, SearchEnd};
+use lop_core::Core;
+use lop_model::{Order, Weights};
+use lop_node::PackJudge;
+use std::alloc::{AllocError, Global};
+use std::sync::atomic::{AtomicBool, Ordering};
+use std::test::Fail;
+use std::thread::Threads;
+
+// So many judges for n objects.
+fn judges(alloc: Global, n: u16, count: usize) -> Result<Vec<PackJudge>, AllocError>
+    ensures count { IfOk result (λ v. vec_len v ≡ count) }
+    ensures same_n { IfOk result (λ v. All (λ j. j ≡ n) v.items) }
+{
+    let mut judges = Vec::new(alloc);
+    for _ in 0..count {
+        judges.push(PackJudge::new(alloc, n)?)?;
+    }
+    Ok(judges)
+}
+
+// A three-fence with weight 2 on each of its nine arcs, searched from an order of weight 14: how the search ends, how
+// many nodes were evaluated, best and the bound.
+fn searched<R: Threads + Sync, G: Gate>(
+    rt: &R,
+    alloc: Global,
+    count: usize,
+    budget: u32,
+    gate: &G,
+) -> Result<Option<(SearchEnd, u32, i128, i128)>, Fail>
+    requires some { 1 ≤ count }
+    requires at_most { count ≤ 16 }
+    requires positive { 1 ≤ budget }
+    requires within_limit { budget ≤ 1000000 }
+{
+    let entries: [i64; 36] = [
+        0, 0, 0, 2, 0, 0, //
+        0, 0, 0, 0, 2, 0, //
+        0, 0, 0, 0, 0, 2, //
+        0, 2, 2, 0, 0, 0, //
+        2, 0, 2, 0, 0, 0, //
+        2, 2, 0, 0, 0, 0, //
+    ];
+    let objects: [u16; 6] = [3, 4, 2, 5, 0, 1];
+    let Ok(order) = Order::of_list(objects.to_vec(alloc)?, 6) else {
+        return Ok(None);
+    };
+    let Ok(weights) = Weights::new(6, entries.to_vec(alloc)?) else {
+        return Ok(None);
+    };
+    if order.n() != weights.n() {
+        return Ok(None);
+    }
+    let core = Core::prepare(alloc, &weights, &order, budget)?;
+    let mut pool = Pool::new(alloc, judges(alloc, weights.n(), count)?)?;
+    let (core, end) = pool.search(rt, alloc, &weights, core, gate);
+    Ok(Some((end, core.evaluated(), core.best(), core.bound())))
+}
+
+// A budget of one node: the root alone, which the caller evaluates, whatever the number of workers.
+#[test]
+fn one_node(rt: HostRuntime) -> Result<(), Fail> {
+    let spent = Some((SearchEnd::Spent, 1, 14, 18));
+    assert_eq!(rt; searched(&rt, rt.alloc(), 1, 1, &OpenGate)?, spent);
+    assert_eq!(rt; searched(&rt, rt.alloc(), 2, 1, &OpenGate)?, spent);
+    Ok(())
+}
+
+// Two workers show each other that they have a ticket. Each looks for the other a bounded number of times.
+struct Meeting {
+    first: AtomicBool,
+    second: AtomicBool,
+    first_met: AtomicBool,
+    second_met: AtomicBool,
+}
+
+// Shows itself, and looks for the other.
+fn meet(own: &AtomicBool, other: &AtomicBool, met: &AtomicBool) {
+    own.store(true, Ordering::SeqCst);
+    for _ in 0..200_000_000 {
+        if other.load(Ordering::SeqCst) {
+            met.store(true, Ordering::SeqCst);
+            return;
+        }
+    }
+}
+
+impl Gate for Meeting {
+    fn before(&self, worker: u32, turn: u32) {
+        match (worker, turn) {
+            (1, 1) => meet(&self.first, &self.second, &self.first_met),
+            (2, 1) => meet(&self.second, &self.first, &self.second_met),
+            _ => {}
+        }
+    }
+}
+
+// The root is split on objects 0 and 1, and each of two workers has one of its children in hand before either judges.
+#[test]
+fn workers_beside_each_other(rt: HostRuntime) -> Result<(), Fail> {
+    let gate = Meeting {
+        first: AtomicBool::new(false),
+        second: AtomicBool::new(false),
+        first_met: AtomicBool::new(false),
+        second_met: AtomicBool::new(false),
+    };
+    let spent = Some((SearchEnd::Spent, 3, 14, 16));
+    assert_eq!(rt; searched(&rt, rt.alloc(), 2, 3, &gate)?, spent);
+    assert!(rt; gate.first_met.load(Ordering::SeqCst));
+    assert!(rt; gate.second_met.load(Ordering::SeqCst));
+    Ok(())
+}

@@ -1,13 +1,13 @@
 -- Journals and their events.
-use Rattle.std.proofs.Common.{◌≡◌, ℕ, ◌+◌, ◌<◌, ◌≤◌, ◌⊎◌, inl, inr, List, [], ◌∷◌, ◌++◌, length, get_or, arith, sym, ◌∙◌, refl, ap, subst, Bool, true, false, cond, zero, suc, length-append, append-nil, append_assoc, eq-eqb}
+use Rattle.std.proofs.Common.{◌≡◌, ℕ, ◌<◌, ◌⊎◌, inl, inr, List, [], ◌∷◌, ◌++◌, length, get_or, arith, sym, ◌∙◌, refl, ap, subst, Bool, true, false, cond, zero, suc, append-nil, append_assoc, eq-eqb}
 use Rattle.std.specs.Prelude.{All, Any, map, filter, ◌==◌}
 use Rattle.std.proofs.lemmas.List.Elements.{filter-append}
 use Rattle.std.proofs.lemmas.List.Quantifiers.{Any-push}
 use Rattle.std.proofs.lemmas.Bool.{false≢true, eqb-true}
 use Rattle.lop_core.specs.declared.journal.Entry.{Entry}
 use Rattle.lop_core.specs.declared.journal.Entry.TheVariants.{Take, Report}
-use Rattle.lop_core.specs.Journal.{worker_of, entries_of, takes, reports, HasTake, HasReport}
-use Rattle.lop_turn.specs.Lists.{StartsWith, entries_by}
+use Rattle.lop_core.specs.Journal.{worker_of, entries_of, takes, HasTake}
+use Rattle.lop_turn.specs.Lists.{entries_by}
 use Rattle.lop_pool.specs.declared.event.Event.{Event}
 use Rattle.lop_pool.specs.Events.{events_after, events_of, event_worker, events_by, IsGrown}
 
@@ -83,8 +83,10 @@ in_filter p v (x ∷ xs) h = filter_step p v x xs (λ q. in_filter p v xs q) (p 
 -- an event that is there stands in the journal, behind the entries before it
 pub in_prefix : (v : Event) (before journal : List Entry) → IsIn v (events_after before journal) → (rest : List Entry) × (before ++ journal ≡ (v.before ++ v.entry ∷ []) ++ rest)
 in_prefix v before [] h = absurd h
-in_prefix v before (x ∷ xs) h = elim h [ inl same ↦ (xs, subst (λ (u : Event). before ++ x ∷ xs ≡ (u.before ++ u.entry ∷ []) ++ xs) same (sym (append_assoc before (x ∷ []) xs)))
-    | inr more ↦ let r = in_prefix v (before ++ x ∷ []) xs more in (r.0, sym (append_assoc before (x ∷ []) xs) ∙ r.1) ]
+in_prefix v before (x ∷ xs) h = elim h [
+  | inl same ↦ (xs, subst (λ (u : Event). before ++ x ∷ xs ≡ (u.before ++ u.entry ∷ []) ++ xs) same (sym (append_assoc before (x ∷ []) xs)))
+  | inr more ↦ let r = in_prefix v (before ++ x ∷ []) xs more in (r.0, sym (append_assoc before (x ∷ []) xs) ∙ r.1)
+]
 
 -- where the entries have a take of a node, one of the events is it
 pub took_at : (node : ℕ) (vs : List Event) (k : ℕ) (x : Entry) → k < length (map (λ (u : Event). u.entry) vs) → get_or (map (λ (u : Event). u.entry) vs) k x ≡ x → takes node x ≡ true → (v : Event) × IsIn v vs × (takes node v.entry ≡ true)

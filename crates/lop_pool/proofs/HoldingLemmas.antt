@@ -1,6 +1,6 @@
 -- What a worker holds stays so, whatever the others do.
-use Rattle.std.proofs.Common.{◌≡◌, ◌≢◌, ℕ, ◌+◌, ◌<◌, ◌≤◌, ◌⊎◌, inl, inr, List, [], ◌∷◌, ◌++◌, length, arith, sym, ◌∙◌, Some, None, Option, refl, ap, subst, Bool, true, false, cond, zero, suc}
-use Rattle.std.specs.Prelude.{slice_get, ℤ, pos, ◌≤ℤ◌, Any, map, filter, ◌==◌, int_lt}
+use Rattle.std.proofs.Common.{◌≡◌, ℕ, ◌+◌, inl, inr, List, [], ◌∷◌, ◌++◌, arith, sym, ◌∙◌, Some, None, Option, refl, ap, subst, Bool, true, false, cond, suc}
+use Rattle.std.specs.Prelude.{slice_get, ℤ, pos, ◌≤ℤ◌, map, ◌==◌, int_lt}
 use Rattle.std.specs.Int.{int_max}
 use Rattle.std.proofs.lemmas.Int.{ints, clamps}
 use Rattle.std.proofs.lemmas.Bool.{false≢true, eqb-true}
@@ -9,7 +9,7 @@ use Rattle.lop_model.specs.declared.pair.Pair.{Pair}
 use Rattle.lop_model.specs.Matrix.{Matrix}
 use Rattle.lop_leaf.specs.Ticket.{TicketFields}
 use Rattle.lop_leaf.specs.Evaluated.{EvaluatedFields}
-use Rattle.lop_leaf.specs.Sound.{IsSoundTicket, IsSoundResult}
+use Rattle.lop_leaf.specs.Sound.{IsSoundResult}
 use Rattle.lop_core.specs.declared.node.SearchNode.{SearchNode}
 use Rattle.lop_core.specs.declared.node.Standing.{Standing}
 use Rattle.lop_core.specs.declared.node.Standing.TheVariants.{Idle, Out, Split}
@@ -18,9 +18,9 @@ use Rattle.lop_core.specs.declared.journal.Entry.TheVariants.{Take, Report}
 use Rattle.lop_core.specs.declared.reply.TakeReply.{TakeReply}
 use Rattle.lop_core.specs.declared.reply.TakeReply.TheVariants.{Node, Done, AllOut, Spent}
 use Rattle.lop_core.specs.Tree.{node_at, path_of, is_out, is_split, out_count}
-use Rattle.lop_core.specs.Machine.{Problem, SearchState, closed, divided, settled, after, IsOutTo, IsLive, IsReady}
-use Rattle.lop_core.specs.Journal.{replay, worker_of, entries_of, takes, HasTake, HasReport, IsLawfulJournal}
-use Rattle.lop_core.specs.Core.{CoreFields, HasHistory, IsTake, OnNode, IsTicketOf, IsSoundReport, IsReported, with_entry, entry_of, has_room_for, ticket_of}
+use Rattle.lop_core.specs.Machine.{Problem, SearchState, closed, divided, settled, after, IsOutTo}
+use Rattle.lop_core.specs.Journal.{replay, entries_of, HasTake, HasReport, IsLawfulJournal}
+use Rattle.lop_core.specs.Core.{CoreFields, HasHistory, IsTake, IsSoundReport, IsReported, with_entry, entry_of, has_room_for}
 use Rattle.lop_core.specs.Workers.{StandsStill}
 use Rattle.lop_core.proofs.Lists.{EachFollows-push}
 use Rattle.lop_core.proofs.Sound.{one_if, count_changed}
@@ -32,7 +32,7 @@ use Rattle.lop_pool.specs.declared.event.Event.{Event}
 use Rattle.lop_pool.specs.declared.end.SearchEnd.TheVariants as ends
 use Rattle.lop_pool.specs.Events.{events_of, event_worker, events_by, IsGrown}
 use Rattle.lop_pool.specs.Judged.{Relation, IsJudged, AreJudged, IsJudgedResult}
-use Rattle.lop_pool.specs.Holding.{HasNone, HasOnly, HasTicket, HasResult, Holds, WhateverElse}
+use Rattle.lop_pool.specs.Holding.{HasNone, HasOnly, HasTicket, HasResult, WhateverElse}
 use Rattle.lop_pool.specs.Ends.{NoneLive, IsSpent, IsEnd}
 use Rattle.lop_pool.proofs.EventLemmas.{entries_told, same_entries, IsIn, in_filter, in_prefix, took_at, is_take, took_cases, took_last, grown_same, grown_push}
 
@@ -180,9 +180,9 @@ report_none old new worker found h g told only = λ node out.
     let took : HasTake node (entries_of worker (old.journal ++ entry_of old worker found ∷ [])) = subst (λ (j : List Entry). HasTake node (entries_of worker j)) grown later.0 in
     let open_still : ¬ (HasReport node (entries_of worker (old.journal ++ entry_of old worker found ∷ []))) = λ r. later.1 (subst (λ (j : List Entry). HasReport node (entries_of worker j)) (sym grown) r) in
     elim (took_cases worker node old.journal (entry_of old worker found) took) [
-      inl t ↦
-        let before : IsOutTo old.state worker node = (core_out old worker node h).1 (t, λ r. open_still (Any_more worker old.journal (entry_of old worker found ∷ []) r)) in
-        report_apart old.state old.journal worker found.node found.bound found.pair found.value (has_room_for old found) worker node only.is_out before open_still (only.only node before)
+      | inl t ↦
+          let before : IsOutTo old.state worker node = (core_out old worker node h).1 (t, λ r. open_still (Any_more worker old.journal (entry_of old worker found ∷ []) r)) in
+          report_apart old.state old.journal worker found.node found.bound found.pair found.value (has_room_for old found) worker node only.is_out before open_still (only.only node before)
       | inr t ↦ absurd (false≢true t)
     ]
 
@@ -196,7 +196,7 @@ take_only old new worker node h g noted is none = record {
       let took : HasTake other (entries_of worker (old.journal ++ Take worker node ∷ [])) = subst (λ (j : List Entry). HasTake other (entries_of worker j)) grown later.0 in
       let open_still : ¬ (HasReport other (entries_of worker (old.journal ++ Take worker node ∷ []))) = λ r. later.1 (subst (λ (j : List Entry). HasReport other (entries_of worker j)) (sym grown) r) in
       elim (took_cases worker other old.journal (Take worker node) took) [
-        inl t ↦ absurd (none other ((core_out old worker other h).1 (t, λ r. open_still (Any_more worker old.journal (Take worker node ∷ []) r))))
+        | inl t ↦ absurd (none other ((core_out old worker other h).1 (t, λ r. open_still (Any_more worker old.journal (Take worker node ∷ []) r))))
         | inr t ↦ sym (eqb-true node other t)
       ];
 }

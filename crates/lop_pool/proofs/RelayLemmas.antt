@@ -1,12 +1,12 @@
 -- Passes that are handed out and taken back, and the core that a round leaves.
-use Rattle.std.proofs.Common.{◌≡◌, ◌≢◌, ℕ, ◌+◌, ◌-◌, ◌<◌, ◌≤◌, ◌⊎◌, inl, inr, List, [], ◌∷◌, ◌++◌, length, get_or, arith, sym, ◌∙◌, Option, Some, None, refl, ap, subst, Bool, true, false, append-nil, zero, suc}
-use Rattle.std.specs.Prelude.{ℤ, All, Contains, IsSomeAnd}
+use Rattle.std.proofs.Common.{◌≡◌, ◌≢◌, ℕ, ◌+◌, ◌-◌, ◌<◌, ◌≤◌, List, [], ◌∷◌, ◌++◌, length, get_or, arith, sym, ◌∙◌, Option, Some, None, refl, ap, subst, Bool, false, append-nil, zero, suc}
+use Rattle.std.specs.Prelude.{All, Contains, IsSomeAnd}
 use Rattle.std.specs.Option.{IsSome}
 use Rattle.std.proofs.lemmas.List.Elements.{All-contains}
 use Rattle.lop_model.specs.Matrix.{Matrix}
 use Rattle.lop_core.specs.declared.journal.Entry.{Entry}
 use Rattle.lop_core.specs.Tree.{out_count}
-use Rattle.lop_core.specs.Machine.{Problem, SearchState}
+use Rattle.lop_core.specs.Machine.{Problem}
 use Rattle.lop_core.specs.Core.{CoreFields, HasHistory}
 use Rattle.lop_turn.specs.declared.view.View.{View}
 use Rattle.lop_turn.specs.Lists.{entries_by, list_at}
@@ -57,8 +57,8 @@ module _ {J : Type 0} (objects : J → ℕ) (judged : Relation) (a : CoreFields)
     weights_are = weights;
     fits = fits;
     has_pass = some_and (λ (p : Known Event). (p.turn ≡ turn) × (p.view ≡ new_view event_worker v number))
-    (λ (p : Known Event). IsPassFor turn a.problem number p × WhateverElse a.problem number p.view.mine (Holds judged C number w.has_result w.found)) w.pass
-    (λ p is. (
+        (λ (p : Known Event). IsPassFor turn a.problem number p × WhateverElse a.problem number p.view.mine (Holds judged C number w.has_result w.found)) w.pass
+        (λ p is. (
           record {
             turn_is = is.0;
             free = ap (λ (x : View Event). x.holds) is.1;
@@ -66,9 +66,9 @@ module _ {J : Type 0} (objects : J → ℕ) (judged : Relation) (a : CoreFields)
             fixed_is = ap (λ (x : View Event). x.fixed) is.1 ∙ first.fixed_is;
           },
           subst (λ (b : Bool). WhateverElse a.problem number p.view.mine (Holds judged C number b w.found)) (sym idle)
-          (knows_none a.problem a number p.view.mine h refl (ap (λ (x : View Event). x.mine) is.1 ∙ ap (λ (es : List Event). entries_by event_worker number es) seen) (no_out a.state none number)),
+              (knows_none a.problem a number p.view.mine h refl (ap (λ (x : View Event). x.mine) is.1 ∙ ap (λ (es : List Event). entries_by event_worker number es) seen) (no_out a.state none number)),
         ))
-    pass;
+        pass;
   }
 
 module _ {J : Type 0} (objects : J → ℕ) (judged : Relation) (problem : Problem) (C : Matrix) where

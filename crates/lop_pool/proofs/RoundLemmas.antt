@@ -1,7 +1,7 @@
 -- What a pass knows of a worker, through a turn.
-use Rattle.std.proofs.Common.{◌≡◌, ◌≢◌, ℕ, ◌+◌, ◌<◌, ◌≤◌, ◌⊎◌, inl, inr, List, [], ◌∷◌, ◌++◌, length, arith, sym, ◌∙◌, Some, None, refl, ap, subst, true, false}
+use Rattle.std.proofs.Common.{◌≡◌, ℕ, List, ◌++◌, sym, ◌∙◌, ap, subst, true, false}
 use Rattle.std.specs.Prelude.{ℤ, ◌≤ℤ◌, All}
-use Rattle.lop_model.specs.Matrix.{Matrix, IsWeights}
+use Rattle.lop_model.specs.Matrix.{IsWeights}
 use Rattle.lop_leaf.specs.Ticket.{TicketFields}
 use Rattle.lop_core.specs.declared.journal.Entry.{Entry}
 use Rattle.lop_core.specs.Machine.{Problem, SearchState}
@@ -14,8 +14,7 @@ use Rattle.lop_turn.specs.Lists.{entries_by}
 use Rattle.lop_turn.specs.Views.{Known, TurnName, after_take, after_give}
 use Rattle.lop_pool.specs.declared.event.Event.{Event}
 use Rattle.lop_pool.specs.Events.{events_of, event_worker, events_by, IsGrown}
-use Rattle.lop_pool.specs.Judged.{Relation}
-use Rattle.lop_pool.specs.Holding.{HasNone, HasTicket, HasResult, Holds, WhateverElse}
+use Rattle.lop_pool.specs.Holding.{HasNone, HasTicket, WhateverElse}
 use Rattle.lop_pool.specs.Workers.{IsPassFor, quiet}
 use Rattle.lop_pool.proofs.HoldingLemmas.{none_kept, ticket_kept}
 
@@ -48,7 +47,6 @@ same_problem problem q fixed hp hq a b = fixed_decides q problem hq hp (a ∙ b)
 module _ (p : Known Event) (v w : View Event) (b e : CoreFields)
     (took : quiet v ≡ quiet (after_take p.view (events_of b.journal) b.state.best))
     (gave : w ≡ after_give event_worker v (events_of e.journal) e.state.best) where
-
   pub turn_number : w.number ≡ p.view.number
   turn_number = ap (λ (x : View Event). x.number) gave ∙ ap (λ (x : View Event). x.number) took
 
@@ -75,10 +73,10 @@ module _ (p : Known Event) (v : View Event) (b : CoreFields) (took : quiet v ≡
   pub turn_history : (number : ℕ) (journal : List Entry) → p.view.number ≡ number → IsGrown number b.journal journal
       → (more : List Event) × (events_of journal ≡ v.taken ++ more) × All (λ x. event_worker x ≡ v.number) more
   turn_history number journal is grown = (
-        grown.0,
-        grown.1 ∙ ap (λ (l : List Event). l ++ grown.0) (sym (ap (λ (x : View Event). x.taken) took)),
-        subst (λ (n : ℕ). All (λ x. event_worker x ≡ n) grown.0) (sym (ap (λ (x : View Event). x.number) took ∙ is)) grown.2,
-      )
+    grown.0,
+    grown.1 ∙ ap (λ (l : List Event). l ++ grown.0) (sym (ap (λ (x : View Event). x.taken) took)),
+    subst (λ (n : ℕ). All (λ x. event_worker x ≡ n) grown.0) (sym (ap (λ (x : View Event). x.number) took ∙ is)) grown.2,
+  )
 
 -- a refused try changes nothing but whom it found
 pub still_pass : (turn : TurnName) (problem : Problem) (number : ℕ) (p q : Known Event) → q.turn ≡ p.turn → quiet q.view ≡ quiet p.view → IsPassFor turn problem number p → IsPassFor turn problem number q

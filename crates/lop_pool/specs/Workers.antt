@@ -1,5 +1,5 @@
 -- A worker of the pool, between rounds and in a round.
-use Rattle.std.specs.Prelude.{◌≡◌, ℕ, ◌+◌, ◌<◌, ◌≤◌, false, [], List, length, slice_index_or, All, Some, IsSomeAnd}
+use Rattle.std.specs.Prelude.{◌≡◌, ℕ, ◌<◌, ◌≤◌, false, [], List, length, slice_index_or, Some, IsSomeAnd}
 use Rattle.lop_model.specs.Matrix.{Matrix}
 use Rattle.lop_core.specs.Core.{CoreFields}
 use Rattle.lop_core.specs.Machine.{Problem}

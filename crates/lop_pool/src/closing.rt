@@ -68,11 +68,7 @@ fn settle<J: Judge>(
 }
 
 /// Reports what each worker holds that has left. No node is out then.
-pub fn settle_all<J: Judge>(
-    core: &mut JudgedCore<J>,
-    weights: &Weights,
-    workers: &mut [Worker<J>],
-)
+pub fn settle_all<J: Judge>(core: &mut JudgedCore<J>, weights: &Weights, workers: &mut [Worker<J>])
     requires weights { core.old.problem.weights ≡ weights.now }
     requires history { HasHistory core.old }
     requires at_most { length workers.old ≤ 16 }

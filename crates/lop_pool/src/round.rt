@@ -87,12 +87,7 @@ fn have_turn<J: Judge>(
 }
 
 /// Passes the gate with a ticket in hand, and judges it.
-fn judge_ticket<J: Judge, G: Gate>(
-    weights: &Weights,
-    gate: &G,
-    number: u32,
-    worker: &mut Worker<J>,
-)
+fn judge_ticket<J: Judge, G: Gate>(weights: &Weights, gate: &G, number: u32, worker: &mut Worker<J>)
     requires fits { WorkerFits J.objects weights.now.size worker.old }
     requires sound { IsSoundTicket weights.now worker.old.ticket }
     ensures fits { WorkerFits J.objects weights.now.size worker.new }

@@ -1,5 +1,5 @@
 //! The pool on a three-fence: what a search leaves, and that workers run beside each other.
-ghost use Rattle.std.specs.Prelude.{◌≡◌, ◌≤◌, length, vec_len, All, OnOk};
+ghost use Rattle.std.specs.Prelude.{◌≡◌, ◌≤◌, vec_len, All, IfOk};
 
 use crate::{Gate, OpenGate, Pool, SearchEnd};
 use lop_core::Core;
@@ -10,15 +10,23 @@ use std::sync::atomic::{AtomicBool, Ordering};
 use std::test::Fail;
 use std::thread::Threads;
 
-// So many judges for n objects.
-fn judges(alloc: Global, n: u16, count: usize) -> Result<Vec<PackJudge>, AllocError>
-    ensures count { IfOk result (λ v. vec_len v ≡ count) }
+// One judge for n objects.
+fn one(alloc: Global, n: u16) -> Result<Vec<PackJudge>, AllocError>
+    ensures count { IfOk result (λ v. vec_len v ≡ 1) }
     ensures same_n { IfOk result (λ v. All (λ j. j ≡ n) v.items) }
 {
     let mut judges = Vec::new(alloc);
-    for _ in 0..count {
-        judges.push(PackJudge::new(alloc, n)?)?;
-    }
+    judges.push(PackJudge::new(alloc, n)?)?;
+    Ok(judges)
+}
+
+// Two judges for n objects.
+fn two(alloc: Global, n: u16) -> Result<Vec<PackJudge>, AllocError>
+    ensures count { IfOk result (λ v. vec_len v ≡ 2) }
+    ensures same_n { IfOk result (λ v. All (λ j. j ≡ n) v.items) }
+{
+    let mut judges = one(alloc, n)?;
+    judges.push(PackJudge::new(alloc, n)?)?;
     Ok(judges)
 }
 
@@ -27,12 +35,13 @@ fn judges(alloc: Global, n: u16, count: usize) -> Result<Vec<PackJudge>, AllocEr
 fn searched<R: Threads + Sync, G: Gate>(
     rt: &R,
     alloc: Global,
-    count: usize,
+    judges: Vec<PackJudge>,
     budget: u32,
     gate: &G,
 ) -> Result<Option<(SearchEnd, u32, i128, i128)>, Fail>
-    requires some { 1 ≤ count }
-    requires at_most { count ≤ 16 }
+    requires some { 1 ≤ vec_len judges }
+    requires at_most { vec_len judges ≤ 16 }
+    requires same_n { All (λ j. j ≡ 6) judges.items }
     requires positive { 1 ≤ budget }
     requires within_limit { budget ≤ 1000000 }
 {
@@ -51,11 +60,11 @@ fn searched<R: Threads + Sync, G: Gate>(
     let Ok(weights) = Weights::new(6, entries.to_vec(alloc)?) else {
         return Ok(None);
     };
-    if order.n() != weights.n() {
+    if order.n() != 6 || weights.n() != 6 {
         return Ok(None);
     }
     let core = Core::prepare(alloc, &weights, &order, budget)?;
-    let mut pool = Pool::new(alloc, judges(alloc, weights.n(), count)?)?;
+    let mut pool = Pool::new(alloc, judges)?;
     let (core, end) = pool.search(rt, alloc, &weights, core, gate);
     Ok(Some((end, core.evaluated(), core.best(), core.bound())))
 }
@@ -64,12 +73,14 @@ fn searched<R: Threads + Sync, G: Gate>(
 #[test]
 fn one_node(rt: HostRuntime) -> Result<(), Fail> {
     let spent = Some((SearchEnd::Spent, 1, 14, 18));
-    assert_eq!(rt; searched(&rt, rt.alloc(), 1, 1, &OpenGate)?, spent);
-    assert_eq!(rt; searched(&rt, rt.alloc(), 2, 1, &OpenGate)?, spent);
+    let alloc = rt.alloc();
+    assert_eq!(rt; searched(&rt, alloc, one(alloc, 6)?, 1, &OpenGate)?, spent);
+    assert_eq!(rt; searched(&rt, alloc, two(alloc, 6)?, 1, &OpenGate)?, spent);
     Ok(())
 }
 
 // Two workers show each other that they have a ticket. Each looks for the other a bounded number of times.
+#[derive(Drop)]
 struct Meeting {
     first: AtomicBool,
     second: AtomicBool,
@@ -108,7 +119,8 @@ fn workers_beside_each_other(rt: HostRuntime) -> Result<(), Fail> {
         second_met: AtomicBool::new(false),
     };
     let spent = Some((SearchEnd::Spent, 3, 14, 16));
-    assert_eq!(rt; searched(&rt, rt.alloc(), 2, 3, &gate)?, spent);
+    let alloc = rt.alloc();
+    assert_eq!(rt; searched(&rt, alloc, two(alloc, 6)?, 3, &gate)?, spent);
     assert!(rt; gate.first_met.load(Ordering::SeqCst));
     assert!(rt; gate.second_met.load(Ordering::SeqCst));
     Ok(())

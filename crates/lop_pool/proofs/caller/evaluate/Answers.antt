@@ -1,7 +1,6 @@
-use Rattle.std.proofs.Common.{◌≡◌, ℕ, ◌+◌, ◌∙◌}
-use Rattle.lop_core.specs.Tree.{out_count}
+use Rattle.std.proofs.Common.{◌∙◌}
 use Rattle.lop_core.proofs.Alone.{turned}
-use Rattle.lop_pool.proofs.HoldingLemmas.{end_done, end_spent, never_all_out, judged_result}
+use Rattle.lop_pool.proofs.HoldingLemmas.{end_done, end_spent, never_all_out}
 use Rattle.lop_pool.proofs.caller.evaluate.Goals as goal
 
 pub returns-in-Done-clause-end : goal.returns-in-Done-clause-end

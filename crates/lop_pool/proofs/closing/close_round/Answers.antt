@@ -1,4 +1,4 @@
-use Rattle.std.proofs.Common.{◌≡◌, ◌≢◌, ℕ, ◌+◌, ◌<◌, ◌∙◌, inl, inr, List, length, get_or, arith, refl, ap, sym, subst}
+use Rattle.std.proofs.Common.{◌≡◌, ℕ, ◌+◌, ◌∙◌, inl, inr, List, length, get_or, arith, refl, ap, sym, subst}
 use Rattle.lop_model.specs.Matrix.{IsWeights}
 use Rattle.lop_core.specs.Core.{CoreFields, HasHistory}
 use Rattle.lop_turn.specs.Lists.{StartsWith, entries_by}
@@ -42,12 +42,12 @@ returns-clause-none g c =
     let same : c.close-core.result.problem ≡ c.args.about.now.value.problem = same_problem c.args.about.now.value.problem c.close-core.result.problem c.args.first.view.fixed own shared c.close-core.ensures.fixed c.requires.first.fixed_is in
     let hist : HasHistory c.close-core.result = subst HasHistory c.core-2.ensures c.evaluated-history.ensures.history in
     λ w h. elim h [
-      inl zero ↦
-        let stays : events_by w c.close-core.result.journal ≡ events_by w c.args.about.now.value.journal =
-        subst (λ (n : ℕ). events_by n c.close-core.result.journal ≡ events_by n c.args.about.now.value.journal) (sym zero) (c.close-core.ensures.mine ∙ c.requires.first.mine_is) in
-        still_none c.args.about.now.value.problem c.args.about.now.value c.close-core.result w c.requires.history hist refl same stays (no_out c.args.about.now.value.state c.requires.none_out w)
+      | inl zero ↦
+          let stays : events_by w c.close-core.result.journal ≡ events_by w c.args.about.now.value.journal =
+          subst (λ (n : ℕ). events_by n c.close-core.result.journal ≡ events_by n c.args.about.now.value.journal) (sym zero) (c.close-core.ensures.mine ∙ c.requires.first.mine_is) in
+          still_none c.args.about.now.value.problem c.args.about.now.value c.close-core.result w c.requires.history hist refl same stays (no_out c.args.about.now.value.state c.requires.none_out w)
       | inr gt ↦
-        let stays : events_by w c.close-core.result.journal ≡ events_by w c.args.about.now.value.journal =
-        c.close-core.ensures.others w (λ e. omega (arith, e, gt)) (beyond (length c.args.workers.now) w c.args.first.view.split_off c.requires.split gt) ∙ ap (λ (es : List Event). entries_by event_worker w es) c.requires.first.opening_is in
-        still_none c.args.about.now.value.problem c.args.about.now.value c.close-core.result w c.requires.history hist refl same stays (no_out c.args.about.now.value.state c.requires.none_out w)
+          let stays : events_by w c.close-core.result.journal ≡ events_by w c.args.about.now.value.journal =
+          c.close-core.ensures.others w (λ e. omega (arith, e, gt)) (beyond (length c.args.workers.now) w c.args.first.view.split_off c.requires.split gt) ∙ ap (λ (es : List Event). entries_by event_worker w es) c.requires.first.opening_is in
+          still_none c.args.about.now.value.problem c.args.about.now.value c.close-core.result w c.requires.history hist refl same stays (no_out c.args.about.now.value.state c.requires.none_out w)
     ]

@@ -1,5 +1,4 @@
-use Rattle.std.proofs.Common.{◌≡◌, ◌≢◌, ℕ, ◌+◌, ◌<◌, ◌≤◌, ◌∙◌, false, length, arith, ap, length-set}
-use Rattle.std.specs.Prelude.{All}
+use Rattle.std.proofs.Common.{◌≡◌, ◌+◌, ◌<◌, ◌≤◌, ◌∙◌, false, length, arith, ap, length-set}
 use Rattle.std.proofs.lemmas.List.Elements.{All-set}
 use Rattle.lop_turn.specs.declared.view.View.{View}
 use Rattle.lop_pool.specs.declared.event.Event.{Event}
@@ -23,7 +22,7 @@ loop-k-preserved g c =
       fits = All-set (WorkerFits g.J.Judge.objects c.args.weights.now.size) c.loop-k.workers c.loop-k.k c.hand_pass.new.worker fits c.loop-k.invariant.fits;
       idle = All-set (λ w. w.has_result ≡ false) c.loop-k.workers c.loop-k.k c.hand_pass.new.worker idle c.loop-k.invariant.idle;
       done = below_set (λ k w. IsAtWork g.J.Judge.objects g.J.Judge.judged c.args.about.now.value.problem c.args.weights.now c.args.turn.now (k + 1) w) c.loop-k.workers c.loop-k.k c.hand_pass.new.worker lt
-      (handed g.J.Judge.objects g.J.Judge.judged c.args.about.now.value c.args.weights.now c.args.turn.now c.loop-k.first.view (c.loop-k.k + 1) c.hand_pass.new.worker small c.requires.weights c.requires.history c.requires.none_out
-        c.loop-k.invariant.first c.loop-k.invariant.seen fits idle c.hand_pass.ensures.pass)
-      c.loop-k.invariant.done;
+          (handed g.J.Judge.objects g.J.Judge.judged c.args.about.now.value c.args.weights.now c.args.turn.now c.loop-k.first.view (c.loop-k.k + 1) c.hand_pass.new.worker small c.requires.weights c.requires.history c.requires.none_out
+          c.loop-k.invariant.first c.loop-k.invariant.seen fits idle c.hand_pass.ensures.pass)
+          c.loop-k.invariant.done;
     }

@@ -1,4 +1,4 @@
-use Rattle.std.proofs.Common.{◌≡◌, ℕ, ◌∙◌, [], ◌∷◌, List, ap, rules}
+use Rattle.std.proofs.Common.{ℕ, ◌∙◌, ◌∷◌, ap, rules}
 use Rattle.lop_turn.specs.declared.view.View.{View}
 use Rattle.lop_pool.specs.declared.event.Event.{Event}
 use Rattle.lop_pool.specs.Holding.{Holds, WhateverElse}
@@ -8,8 +8,7 @@ use Rattle.lop_pool.proofs.relay.take_pass.Goals as goal
 pub returns-clause-ended : goal.returns-clause-ended
 returns-clause-ended g c =
     let has : IsPassFor c.args.turn.now c.args.about.now.value.problem c.args.number c.in-Some.pass
-        × WhateverElse c.args.about.now.value.problem c.args.number c.in-Some.pass.view.mine (Holds g.J.Judge.judged c.args.weights.now c.args.number c.args.worker.now.has_result c.args.worker.now.found) = search rules in
-    (
+    × WhateverElse c.args.about.now.value.problem c.args.number c.in-Some.pass.view.mine (Holds g.J.Judge.judged c.args.weights.now c.args.number c.args.worker.now.has_result c.args.worker.now.found) = search rules in (
       c.in-Some.pass.view.mine,
       ap (λ (v : View Event). v.ended) c.join.ensures.joined ∙ ap (λ (n : ℕ). (n, c.in-Some.pass.view.mine) ∷ c.args.first.now.view.ended) has.0.number_is,
       record { fits = record { judge = c.requires.left.fits.judge; ticket = c.requires.left.fits.ticket; found = c.requires.left.fits.found }; knows = has.1 },

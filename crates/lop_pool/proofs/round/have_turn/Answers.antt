@@ -1,9 +1,8 @@
-use Rattle.std.proofs.Common.{◌≡◌, ℕ, ◌∙◌, List, ap, sym, subst}
+use Rattle.std.proofs.Common.{◌≡◌, ℕ, ◌∙◌, ap, sym, subst}
 use Rattle.lop_model.specs.Matrix.{Matrix, IsWeights}
 use Rattle.lop_leaf.specs.Sound.{IsSoundTicket}
 use Rattle.lop_core.specs.Machine.{Problem}
 use Rattle.lop_core.specs.Core.{CoreFields, HasHistory}
-use Rattle.lop_pool.specs.declared.event.Event.{Event}
 use Rattle.lop_pool.specs.Events.{events_by}
 use Rattle.lop_pool.specs.Holding.{Holds}
 use Rattle.lop_pool.proofs.RoundLemmas.{known, knows_none, knows_ticket, same_problem, turn_mine}

@@ -1,6 +1,5 @@
-use Rattle.std.proofs.Common.{◌≡◌, ℕ, ◌<◌, ◌∙◌, false, length, arith, sym, subst, length-set, eq-eqb}
-use Rattle.std.specs.Prelude.{All}
-use Rattle.std.proofs.lemmas.List.Elements.{All-set, AllWithin-more_set, All-from_all_within}
+use Rattle.std.proofs.Common.{◌≡◌, ◌<◌, ◌∙◌, false, length, arith, length-set}
+use Rattle.std.proofs.lemmas.List.Elements.{All-set, AllWithin-more_set}
 use Rattle.lop_pool.specs.Workers.{WorkerFits}
 use Rattle.lop_pool.proofs.search.start_anew.Goals as goal
 

@@ -1,4 +1,4 @@
-use Rattle.std.proofs.Common.{Bool, true, subst}
+use Rattle.std.proofs.Common.{Bool, subst}
 use Rattle.lop_pool.specs.Holding.{Holds, HasResult}
 use Rattle.lop_pool.proofs.HoldingLemmas.{report_grown, report_none}
 use Rattle.lop_pool.proofs.steps.report_held.Goals as goal

@@ -1,6 +1,5 @@
-use Rattle.std.proofs.Common.{◌≡◌, ℕ, ◌∙◌, [], length, ap, sym, subst}
+use Rattle.std.proofs.Common.{ℕ, ◌∙◌, ap, sym, subst}
 use Rattle.std.specs.Prelude.{All}
-use Rattle.lop_core.specs.Machine.{Problem}
 use Rattle.lop_core.specs.Core.{CoreFields}
 use Rattle.lop_core.specs.Tree.{out_count}
 use Rattle.lop_core.proofs.Alone.{core_outcome}
@@ -16,11 +15,11 @@ search_with-judged-requires-clause-fits g c κs within =
 
 pub invariant_of-self : goal.invariant_of-self
 invariant_of-self g c = (
-      all_back (WorkerFits g.J.Judge.objects c.self.inside.size) c.self.inside.workers.len c.search_with-judged.new.workers c.self.inside.workers.items (c.search_with-judged.ensures.len ∙ c.deref_mut.ensures.len)
+  all_back (WorkerFits g.J.Judge.objects c.self.inside.size) c.self.inside.workers.len c.search_with-judged.new.workers c.self.inside.workers.items (c.search_with-judged.ensures.len ∙ c.deref_mut.ensures.len)
       (subst (λ (n : ℕ). All (WorkerFits g.J.Judge.objects n) c.search_with-judged.new.workers) (sym (ap (λ (p : PoolFields). p.size) c.self.view_is ∙ c.requires.same_n)) c.search_with-judged.ensures.fits),
-      c.self.invariant.1,
-      c.self.invariant.2,
-    )
+  c.self.invariant.1,
+  c.self.invariant.2,
+)
 
 pub returns-clause-best : goal.returns-clause-best
 returns-clause-best g c =
@@ -49,4 +48,4 @@ pub returns-clause-outcome : goal.returns-clause-outcome
 returns-clause-outcome g c =
     core_outcome c.into_core-core.result c.journal-after.ensures.history
     (finished c.into_core-core.result c.search_with-judged.result.1 (subst (λ (x : CoreFields). IsEnd x c.search_with-judged.result.1) (sym c.into_core-core.ensures.value) c.search_with-judged.ensures.end)
-      (ap (λ (x : CoreFields). out_count x.state.nodes) c.into_core-core.ensures.value ∙ c.search_with-judged.ensures.none_out))
+    (ap (λ (x : CoreFields). out_count x.state.nodes) c.into_core-core.ensures.value ∙ c.search_with-judged.ensures.none_out))

@@ -15,3 +15,7 @@ fit_none n r e = rw e (λ k d l. absurd (omega arith))
 -- what was appended to an empty list is of cuts of the point's objects
 pub fit_found : (n : ℕ) (p : PointValues) (cuts : List CutKind) (before : ℕ) → AllWithin (IsViolatedCut p) cuts before (length cuts) → before ≡ 0 → p.size ≡ n → All (FitsCut n) cuts
 fit_found n p cuts before h none same = λ k d l. subst (λ m. FitsCut m (get_or cuts k d)) same (h k d (omega arith) l).fits
+
+-- the same where only the cuts' fit is known
+pub fit_appended : (n : ℕ) (cuts : List CutKind) (before : ℕ) → AllWithin (FitsCut n) cuts before (length cuts) → before ≡ 0 → All (FitsCut n) cuts
+fit_appended n cuts before h none = λ k d l. h k d (omega arith) l

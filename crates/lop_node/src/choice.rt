@@ -1,15 +1,16 @@
-// Which of the violated dicycles become rows: those that are violated most, at most 128, and first those whose arcs few
-// others have.
+// Which of the violated cuts become rows: those that are violated most, at most 128 in a round, and first those whose
+// arcs few others have.
 ghost use Rattle.std.specs.Prelude.{◌≡◌, ◌<◌, ◌≤◌, length, All, IfOk};
 ghost use Rattle.lop_cuts.specs.Kind.{FitsCut};
 
 use lop_ascent::{AscentRoom, RowReply};
 use lop_cuts::{Cut, CutKind, CutList, Point};
+use lop_model::Pair;
 use std::alloc::{AllocError, Global};
 use std::marker::Model;
 
 /// The most cuts that a round takes.
-pub const MOST_TAKEN: usize = 128;
+pub const MOST_TAKEN: u32 = 128;
 
 /// How many taken cuts may have an arc before cuts on it wait.
 const MOST_USES: u8 = 2;
@@ -46,23 +47,40 @@ fn cell_of(a: u16, b: u16) -> usize
     a as usize % 512 * 512 + b as usize % 512
 }
 
-/// By how many 64ths the point violates a dicycle of its objects, rounded down; 0 for another cut.
+/// By how many 64ths values of this sum are above a right side, rounded down, at most 64.
+fn level_above(sum: u64, right_side: u32) -> u8 {
+    let over = sum.saturating_sub(u64::from(right_side).wrapping_mul(Point::ONE));
+    (over >> 26).min(64) as u8
+}
+
+/// The value of an arc, or 0 where the point hasn't its objects.
+fn value_of(point: &Point, a: u16, b: u16) -> u64 {
+    if a < point.n() && b < point.n() {
+        point.at(a, b)
+    } else {
+        0
+    }
+}
+
+/// The values of arcs, added up. O(arcs).
+fn sum_of(point: &Point, arcs: &[Pair]) -> u64 {
+    let mut sum: u64 = 0;
+    for arc in arcs {
+        sum = sum.wrapping_add(value_of(point, arc.before, arc.after));
+    }
+    sum
+}
+
+/// By how many 64ths the point violates a cut, rounded down, at most 64. O(arcs), for a ladder O(arcs²).
 fn level_of(point: &Point, cut: &Cut) -> u8 {
-    let n = point.n();
     match cut.kind() {
         CutKind::Dicycle([a, b, c]) => {
-            if *a < n && *b < n && *c < n {
-                let two = point.at(*a, *b).wrapping_add(point.at(*b, *c));
-                let over = two
-                    .wrapping_add(point.at(*c, *a))
-                    .saturating_sub(2 * Point::ONE);
-                (over >> 26).min(64) as u8
-            } else {
-                0
-            }
+            let two = value_of(point, *a, *b).wrapping_add(value_of(point, *b, *c));
+            level_above(two.wrapping_add(value_of(point, *c, *a)), 2)
         }
-        CutKind::Fence { u: _, w: _ } => 0,
-        CutKind::Ladder(_) => 0,
+        CutKind::Fence { u: _, w: _ } | CutKind::Ladder(_) => {
+            level_above(sum_of(point, cut.arcs().as_slice()), cut.right_side())
+        }
     }
 }
 
@@ -75,7 +93,19 @@ fn write_levels(point: &Point, list: &CutList, levels: &mut [u8])
     }
 }
 
-/// Whether fewer than two taken cuts have each arc of a dicycle.
+/// Whether fewer than two taken cuts have each of the arcs. O(arcs).
+fn are_spread(uses: &[u8], arcs: &[Pair]) -> bool
+    requires { length uses.now ≡ 262144 }
+{
+    for arc in arcs {
+        if uses[cell_of(arc.before, arc.after)] >= MOST_USES {
+            return false;
+        }
+    }
+    true
+}
+
+/// Whether fewer than two taken cuts have each arc of a cut.
 fn is_spread(uses: &[u8], cut: &Cut) -> bool
     requires { length uses.now ≡ 262144 }
 {
@@ -85,19 +115,18 @@ fn is_spread(uses: &[u8], cut: &Cut) -> bool
                 && uses[cell_of(*b, *c)] < MOST_USES
                 && uses[cell_of(*c, *a)] < MOST_USES
         }
-        CutKind::Fence { u: _, w: _ } => false,
-        CutKind::Ladder(_) => false,
+        CutKind::Fence { u: _, w: _ } | CutKind::Ladder(_) => {
+            are_spread(uses, cut.arcs().as_slice())
+        }
     }
 }
 
-/// Counts a taken dicycle at its arcs.
-fn use_arcs(uses: &mut [u8], cut: &Cut)
+/// Counts a taken cut at its arcs. O(arcs).
+fn use_arcs(uses: &mut [u8], arcs: &[Pair])
     requires { length uses.old ≡ 262144 }
 {
-    if let CutKind::Dicycle([a, b, c]) = cut.kind() {
-        use_arc(uses, *a, *b);
-        use_arc(uses, *b, *c);
-        use_arc(uses, *c, *a);
+    for arc in arcs {
+        use_arc(uses, arc.before, arc.after);
     }
 }
 
@@ -115,11 +144,18 @@ struct Sought {
     spread: bool,
 }
 
-/// How many cuts were taken, and how many of them are new rows.
+/// How many cuts were taken in a round, and how many of them are new rows.
 #[derive(Clone, Copy)]
-struct Taken {
-    taken: u32,
-    added: u32,
+pub struct Taken {
+    pub taken: u32,
+    pub added: u32,
+}
+
+impl Taken {
+    /// How many more the round may take.
+    pub fn rest(self) -> u32 {
+        MOST_TAKEN.saturating_sub(self.taken)
+    }
 }
 
 /// Takes a cut of a level, unless only spread ones are to be taken and it isn't.
@@ -146,7 +182,7 @@ fn take_one(
         return before;
     }
     levels[k] = 0;
-    use_arcs(uses, cut);
+    use_arcs(uses, cut.arcs().as_slice());
     let reply = ascent.add_row(cut, 0, 1);
     counted(before, reply)
 }
@@ -167,7 +203,7 @@ fn take_level(
 {
     let mut all = before;
     for k in 0..list.len() {
-        if all.taken >= MOST_TAKEN as u32 {
+        if all.taken >= MOST_TAKEN {
             return all;
         }
         all = take_one(list, k, levels, uses, ascent, sought, all);
@@ -221,20 +257,31 @@ impl Choice {
         })
     }
 
-    /// Adds at most 128 of the cuts as rows. Answers how many were taken, and how many of them are new.
-    pub fn take(&mut self, point: &Point, list: &CutList, ascent: &mut AscentRoom) -> (u32, u32)
+    /// Begins a round: no cut is taken.
+    pub fn begin(&mut self) -> Taken
+        ensures { self.new ≡ self.old }
+    {
+        for count in self.uses.iter_mut() {
+            *count = 0;
+        }
+        Taken { taken: 0, added: 0 }
+    }
+
+    /// Adds cuts of the list as rows, until the round has taken 128. Answers how many it has taken then.
+    pub fn take(
+        &mut self,
+        point: &Point,
+        list: &CutList,
+        ascent: &mut AscentRoom,
+        before: Taken,
+    ) -> Taken
         requires room { length list.now.cuts ≤ self.old }
         requires fit { All (FitsCut ascent.old.size) list.now.cuts }
         ensures room { self.new ≡ self.old }
         ensures size { ascent.new.size ≡ ascent.old.size }
     {
         write_levels(point, list, &mut self.levels);
-        for count in self.uses.iter_mut() {
-            *count = 0;
-        }
-        let none = Taken { taken: 0, added: 0 };
-        let some = take_levels(list, &mut self.levels, &mut self.uses, ascent, true, none);
-        let all = take_levels(list, &mut self.levels, &mut self.uses, ascent, false, some);
-        (all.taken, all.added)
+        let some = take_levels(list, &mut self.levels, &mut self.uses, ascent, true, before);
+        take_levels(list, &mut self.levels, &mut self.uses, ascent, false, some)
     }
 }

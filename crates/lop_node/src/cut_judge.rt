@@ -55,7 +55,7 @@ fn record_bound(
 }
 
 impl CutJudge {
-    /// Takes the rooms of a judge that packs, of an ascent and of a list of dicycles, some 20 MB.
+    /// Takes the rooms of a judge that packs, of an ascent, of a list of cuts and of a search for ladders, some 20 to 40 MB.
     pub fn new(alloc: Global, n: u16) -> Result<Self, AllocError>
         requires positive { 1 ≤ n }
         requires within_limit { n ≤ 512 }

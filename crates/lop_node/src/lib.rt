@@ -9,6 +9,7 @@ mod extension;
 mod judge;
 mod pack_judge;
 mod rounds;
+mod search;
 #[cfg(test)]
 mod tests;
 

@@ -1,16 +1,18 @@
 // The rounds of a judge that cuts: solving, an order by the point, and cuts that the point violates.
-ghost use Rattle.std.specs.Prelude.{◌≡◌, ◌<◌, ◌≤◌, length, IfOk};
+ghost use Rattle.std.specs.Prelude.{◌≡◌, ◌<◌, ◌≤◌, length, All, IfOk};
+ghost use Rattle.lop_cuts.specs.Kind.{FitsCut};
 ghost use Rattle.lop_leaf.specs.Record.{FitTerms};
 
 use crate::by_point::order_by_point;
-use crate::choice::{Choice, MOST_TAKEN};
+use crate::choice::{Choice, Taken};
+use crate::search::{find_dicycles, find_fences, find_ladders};
 use lop_ascent::{AscentRoom, RowReply};
 use lop_climb::{ClimbRoom, climb};
 use lop_cuts::{CutList, Point};
 use lop_fix::Fixings;
 use lop_leaf::{LeafRecord, round_hints};
+use lop_mobius::RingRoom;
 use lop_model::{Order, Weights};
-use lop_sep3::violated_dicycles;
 use lop_value::value;
 use std::alloc::{AllocError, Global};
 use std::marker::Model;
@@ -18,10 +20,16 @@ use std::marker::Model;
 /// The most rounds of a node.
 const MOST_ROUNDS: u32 = 10;
 
-/// The steps of a run after a round that took as many cuts as one may.
+/// The most rounds of a node that look for more than dicycles.
+const MOST_LADDER_ROUNDS: u32 = 4;
+
+/// How many ladders a search may find.
+const MOST_LADDERS: usize = 200;
+
+/// The steps of the first run, and of a run after a round that was filled without ladders.
 const SHORT_RUN: u32 = 24;
 
-/// The steps of a run after one that took fewer.
+/// The steps of a run after another round.
 const LONG_RUN: u32 = 160;
 
 /// How the rounds of a node go.
@@ -37,6 +45,8 @@ struct Pace {
     shown: i64,
     /// The bound after the last run that had no new row.
     idle: i64,
+    /// How many rounds may still look for more than dicycles.
+    ladder_rounds: u32,
 }
 
 /// What the rounds work in, and what they leave: a record of rounded hints, and the best order that they met. A
@@ -48,6 +58,7 @@ pub struct Rounds {
     point: Point,
     found: CutList,
     choice: Choice,
+    rings: RingRoom,
     sums: Vec<u64>,
     next: Order,
     climb: ClimbRoom,
@@ -64,7 +75,7 @@ impl Model for Rounds {
 
     ghost view = { λ r. record { size = r.size; shown = r.rounded; order = r.best } };
 
-    ghost invariant = { λ r. IsRounds r.size r.ascent.size r.point.size r.found.room r.choice (vec_len r.sums) (length r.next) (length r.climb) r.rounded.terms (length r.best) };
+    ghost invariant = { λ r. IsRounds r.size r.ascent.size r.point.size r.found.room r.choice r.rings (vec_len r.sums) (length r.next) (length r.climb) r.rounded.terms (length r.best) };
 }
 
 /// How many violated dicycles a round looks at.
@@ -88,6 +99,7 @@ impl Rounds {
             point: Point::new(alloc, n)?,
             found: CutList::new(alloc, room)?,
             choice: Choice::new(alloc, room)?,
+            rings: RingRoom::new(alloc, n)?,
             sums: vec![in alloc; 0; n as usize]?,
             next: Order::first(alloc, n)?,
             climb: ClimbRoom::new(alloc, n)?,
@@ -137,7 +149,8 @@ impl Rounds {
     }
 
     /// Solving in rounds, from the rows of a record: at most 10, each with at most 128 new cuts. They end where the
-    /// bound is at most the best weight known, and where no violated dicycle is left and a longer run gains little.
+    /// bound is at most the best weight known, where no new row was found and a longer run gains little, and after four
+    /// rounds that dicycles didn't fill.
     pub fn run(
         &mut self,
         weights: &Weights,
@@ -159,6 +172,7 @@ impl Rounds {
             best: best.max(value(weights, &self.best)),
             shown: i64::MAX,
             idle: i64::MAX,
+            ladder_rounds: MOST_LADDER_ROUNDS,
         };
         for _round in 0..MOST_ROUNDS {
             match self.round(weights, fixings, pace) {
@@ -216,8 +230,20 @@ impl Rounds {
             return None;
         }
         let _dropped = self.ascent.drop_slack_rows();
-        let (taken, added) = self.separate();
-        next_pace(pace, best, bound, threshold, taken, added)
+        let dicycles = self.add_dicycles();
+        if dicycles.rest() == 0 {
+            return next_pace(pace, SHORT_RUN, best, bound, threshold, dicycles.added);
+        }
+        if pace.ladder_rounds == 0 {
+            return None;
+        }
+        let fences = self.add_fences(dicycles);
+        let all = self.add_ladders(fences);
+        let rest = Pace {
+            ladder_rounds: pace.ladder_rounds - 1,
+            ..pace
+        };
+        next_pace(rest, LONG_RUN, best, bound, threshold, all.added)
     }
 
     /// A run, whose hints are rounded where its bound is less than what the record shows. On at most 64 rows the
@@ -264,16 +290,65 @@ impl Rounds {
         }
     }
 
-    /// Looks for violated dicycles and adds some as rows. Answers how many were taken, and how many of them are new.
-    fn separate(&mut self) -> (u32, u32)
+    /// Adds violated dicycles as rows, as a round's first cuts.
+    fn add_dicycles(&mut self) -> Taken
         ensures { self.new.size ≡ self.old.size }
     {
-        self.found.clear();
-        let limit = self.found.free();
-        let _found = violated_dicycles(&self.point, limit, &mut self.found);
-        let _free = self.found.free();
-        self.choice.take(&self.point, &self.found, &mut self.ascent)
+        let none = self.choice.begin();
+        find_dicycles(&self.point, &mut self.found);
+        take_found(
+            &self.point,
+            &self.found,
+            &mut self.choice,
+            &mut self.ascent,
+            none,
+        )
     }
+
+    /// Adds violated fences as rows, until the round is full.
+    fn add_fences(&mut self, before: Taken) -> Taken
+        ensures { self.new.size ≡ self.old.size }
+    {
+        find_fences(&self.point, before.rest() as usize, &mut self.found);
+        take_found(
+            &self.point,
+            &self.found,
+            &mut self.choice,
+            &mut self.ascent,
+            before,
+        )
+    }
+
+    /// Adds violated ladders as rows, until the round is full.
+    fn add_ladders(&mut self, before: Taken) -> Taken
+        ensures { self.new.size ≡ self.old.size }
+    {
+        find_ladders(&self.point, MOST_LADDERS, &mut self.found, &mut self.rings);
+        take_found(
+            &self.point,
+            &self.found,
+            &mut self.choice,
+            &mut self.ascent,
+            before,
+        )
+    }
+}
+
+/// Adds some of the cuts that were found as rows.
+fn take_found(
+    point: &Point,
+    found: &CutList,
+    choice: &mut Choice,
+    ascent: &mut AscentRoom,
+    before: Taken,
+) -> Taken
+    requires room { found.now.room ≡ choice.old }
+    requires fit { All (FitsCut ascent.old.size) found.now.cuts }
+    ensures room { choice.new ≡ choice.old }
+    ensures size { ascent.new.size ≡ ascent.old.size }
+{
+    let _free = found.free();
+    choice.take(point, found, ascent, before)
 }
 
 /// Adds a row for a term.
@@ -310,29 +385,25 @@ fn round_rows(ascent: &AscentRoom, rounded: &mut LeafRecord)
     );
 }
 
-/// How the rounds go on. A round that took all that one may is followed by a short run, another by a long one, longer
-/// where no row was new; None where such a run gained less than an eighth of what is left.
+/// How the rounds go on after a round that added so many new rows: with a run of these steps, and a longer one where no
+/// row was new; None where such a run gained less than an eighth of what is left.
 fn next_pace(
     pace: Pace,
+    steps: u32,
     best: i128,
     bound: i64,
     threshold: i64,
-    taken: u32,
     added: u32,
 ) -> Option<Pace> {
     let shown = pace.shown.min(bound);
     if added > 0 {
-        let steps = if taken as usize >= MOST_TAKEN {
-            SHORT_RUN
-        } else {
-            LONG_RUN
-        };
         return Some(Pace {
             steps,
             boost: 1,
             best,
             shown,
             idle: i64::MAX,
+            ladder_rounds: pace.ladder_rounds,
         });
     }
     let gained = pace.idle.saturating_sub(bound);
@@ -346,5 +417,6 @@ fn next_pace(
         best,
         shown,
         idle: bound,
+        ladder_rounds: pace.ladder_rounds,
     })
 }

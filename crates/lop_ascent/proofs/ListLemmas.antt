@@ -1,11 +1,11 @@
 -- A list of rows to which a cut is appended.
-use Rattle.std.proofs.Common.{◌≡◌, ◌≢◌, ℕ, ◌+◌, ◌<◌, ◌≤◌, List, [], ◌∷◌, ◌++◌, length, take, get_or, ℤ, refl, sym, subst, arith}
-use Rattle.std.specs.Prelude.{All, AllPairs}
+use Rattle.std.proofs.Common.{◌≡◌, ◌≢◌, ℕ, ◌<◌, ◌≤◌, List, [], ◌∷◌, ◌++◌, length, take, ℤ, refl, sym, subst, arith}
+use Rattle.std.specs.Prelude.{All}
 use Rattle.std.proofs.lemmas.Grind.{common_steps}
 use Rattle.std.proofs.lemmas.List.Quantifiers.{all_pairs_push}
 use Rattle.lop_cuts.specs.declared.kind.CutKind.{CutKind}
 use Rattle.lop_cuts.specs.Kind.{IsCut, FitsCut}
-use Rattle.lop_ascent.specs.Rows.{AscentRows, IsRowList, no_rows}
+use Rattle.lop_ascent.specs.Rows.{IsRowList, no_rows}
 
 -- what is below n is below 512
 pub fits_more : (n : ℕ) (cut : CutKind) → n ≤ 512 → FitsCut n cut → FitsCut 512 cut

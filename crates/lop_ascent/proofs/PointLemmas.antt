@@ -1,11 +1,11 @@
 -- A point is written pair by pair.
-use Rattle.std.proofs.Common.{◌≡◌, ◌≢◌, ℕ, ◌+◌, ◌<◌, ◌≤◌, List, ◌∙◌, sym, subst, inl, inr, arith}
-use Rattle.std.specs.Prelude.{◌⊎◌, IsTrue}
+use Rattle.std.proofs.Common.{◌≢◌, ℕ, ◌+◌, ◌<◌, ◌≤◌, List, ◌∙◌, sym, subst, inl, inr, arith}
+use Rattle.std.specs.Prelude.{IsTrue}
 use Rattle.std.proofs.lemmas.Bool.{cases_eq, cases_lt}
 use Rattle.lop_model.specs.declared.pair.Pair.{Pair}
 use Rattle.lop_model.specs.Fixings.{has_pair, one_pair}
 use Rattle.lop_fix.specs.PartialOrder.{FixedPairs, IsPartialOrder}
-use Rattle.lop_cuts.specs.Point.{PointValues, value_at, AreOtherObjects}
+use Rattle.lop_cuts.specs.Point.{PointValues, AreOtherObjects}
 use Rattle.lop_ascent.specs.AtFixings.{HasFixings, IsPairAt, IsPairWritten}
 
 -- all pairs of objects below j are written

@@ -1,4 +1,4 @@
-use Rattle.std.specs.Prelude.{◌≡◌, ◌≢◌, ◌≤◌, List, length, All, AllPairs, Contains}
+use Rattle.std.specs.Prelude.{◌≢◌, ◌≤◌, List, length, All, AllPairs, Contains}
 use Rattle.lop_cuts.specs.declared.kind.CutKind.{CutKind}
 
 -- each of the cuts was among the others

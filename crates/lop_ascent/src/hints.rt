@@ -3,11 +3,13 @@ ghost use Rattle.std.specs.Prelude.{◌+◌, ◌<◌, [], ◌∷◌, ◌++◌, I
 ghost use Rattle.std.specs.Vec.{vec_len, vec_capacity};
 ghost use Rattle.lop_ascent.specs.Duals.{AreDuals};
 ghost use Rattle.lop_ascent.specs.Fewer.{AreFewer};
+ghost use Rattle.lop_ascent.specs.Places.{IsPlaceIn, IsSpanIn};
 
 use crate::objective::{ONE, Variable};
 use crate::place::Place;
 use crate::room::MAX_ROWS;
 use crate::rows::{Row, slack_of};
+use crate::span::Span;
 use lop_cuts::Cut;
 use std::alloc::{AllocError, Global};
 
@@ -78,26 +80,60 @@ pub fn write_hints(rows: &[Row], hints: &mut Vec<i64>, lift: u32)
     }
 }
 
-/// Whether a row tells nothing of its bound: its kept multiplier is 0, and its sum is below its side by more than an
-/// eighth.
-fn is_idle(row: &Row, entries: &[Place], variables: &[Variable]) -> bool
-    requires entries { length entries.now ≡ 262144 }
-    requires variables { length variables.now ≡ 130816 }
-{
-    row.kept <= 0 && slack_of(row, entries, variables) > i64::from(ONE / 8)
+/// The most multipliers that are tried: each is above 9/8 of the one before.
+const MOST_TRIED: u32 = 400;
+
+/// How many rows have at least this kept multiplier. O(rows).
+fn count_from(rows: &[Row], least: i64) -> usize {
+    let mut count: usize = 0;
+    for row in rows {
+        if row.kept >= least {
+            count = count.wrapping_add(1);
+        }
+    }
+    count
 }
 
-/// Takes out the idle rows, each with its cut; the last takes the place of one that goes. O(entries).
+/// A kept multiplier that at most so many rows reach, 0 where there are no more rows. O(rows) for each that is tried.
+pub fn least_kept(rows: &[Row], most: usize) -> i64 {
+    let mut least: i64 = 0;
+    for _tried in 0..MOST_TRIED {
+        if count_from(rows, least) <= most {
+            return least;
+        }
+        least = least.saturating_add(least / 8).saturating_add(1);
+    }
+    least
+}
+
+/// Whether a row goes: its kept multiplier is less than `least`, or it tells nothing of its bound, since it is 0 and the
+/// row's sum is below its side by more than an eighth.
+fn is_idle(row: &Row, span: Span, entries: &[Place], variables: &[Variable], least: i64) -> bool
+    requires span { IsSpanIn (length entries.now) span }
+    requires places { All (IsPlaceIn (length variables.now)) entries.now }
+{
+    row.kept < least
+        || row.kept <= 0 && slack_of(row, span, entries, variables) > i64::from(ONE / 8)
+}
+
+/// Takes out the idle rows and those below the least multiplier, each with its cut; the last takes the place of one that
+/// goes. O(entries).
 pub fn remove_idle(
     rows: &mut Vec<Row>,
     cuts: &mut Vec<Cut>,
+    spans: &mut Vec<Span>,
     entries: &[Place],
     variables: &[Variable],
+    least: i64,
 )
     requires same { vec_len rows.old ≡ vec_len cuts.old }
-    requires entries { length entries.now ≡ 262144 }
-    requires variables { length variables.now ≡ 130816 }
+    requires same_spans { vec_len spans.old ≡ vec_len cuts.old }
+    requires spans { All (IsSpanIn (length entries.now)) spans.old.items }
+    requires places { All (IsPlaceIn (length variables.now)) entries.now }
     ensures same { vec_len rows.new ≡ vec_len cuts.new }
+    ensures same_spans { vec_len spans.new ≡ vec_len cuts.new }
+    ensures spans { All (IsSpanIn (length entries.now)) spans.new.items }
+    ensures span_capacity { vec_capacity spans.new ≡ vec_capacity spans.old }
     ensures capacity { vec_capacity rows.new ≡ vec_capacity rows.old }
     ensures cut_capacity { vec_capacity cuts.new ≡ vec_capacity cuts.old }
     ensures fewer { AreFewer cuts.old.items cuts.new.items }
@@ -105,8 +141,9 @@ pub fn remove_idle(
     let mut at = rows.len();
     while at > 0 {
         at -= 1;
-        if is_idle(&rows[at], entries, variables) {
+        if is_idle(&rows[at], spans[at], entries, variables, least) {
             let _row = rows.swap_remove(at);
+            let _span = spans.swap_remove(at);
             let _cut = cuts.swap_remove(at);
         }
     }

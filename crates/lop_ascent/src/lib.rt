@@ -11,6 +11,7 @@ mod point;
 mod room;
 mod rows;
 mod run;
+mod span;
 mod step;
 
 pub use room::{AscentRoom, MAX_ROWS, RowReply};

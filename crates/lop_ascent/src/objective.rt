@@ -1,7 +1,8 @@
 // The objective of the pairs, in the unit of the multipliers, and what the weights give beside it.
 ghost use Rattle.std.specs.Prelude.{◌≡◌, ◌<◌, ◌≤◌, length};
+ghost use Rattle.lop_ascent.specs.Places.{HasCells};
 
-use crate::place::{MAX_PAIRS, Place};
+use crate::place::Place;
 use lop_fix::{Decision, Fixings};
 use lop_model::Weights;
 
@@ -156,19 +157,22 @@ fn variable_of(weights: &Weights, fixings: &Fixings, scale: Scale, i: u16, j: u1
     }
 }
 
-/// Writes the variables of all pairs, and answers the mean of the absolute objectives. O(n²).
+/// Writes the variables of all pairs of the first n objects, and answers the mean of the absolute objectives. O(n²).
 pub fn load_variables(
+    n: u16,
     weights: &Weights,
     fixings: &Fixings,
     scale: Scale,
     variables: &mut [Variable],
 ) -> i64
     requires same_n { fixings.now.size ≡ weights.now.size }
-    requires whole { length variables.old ≡ 130816 }
+    requires within { n ≤ weights.now.size }
+    requires within_limit { n ≤ 512 }
+    requires cells { HasCells n (length variables.old) }
 {
     let mut sum: u64 = 0;
     let mut count: u64 = 0;
-    for j in 0..weights.n() {
+    for j in 0..n {
         for i in 0..j {
             let variable = variable_of(weights, fixings, scale, i, j);
             sum = sum.wrapping_add(variable.objective.unsigned_abs());

@@ -1,13 +1,11 @@
-ghost use Rattle.std.specs.Prelude.{◌<◌, ◌≤◌};
-
-/// How many pairs 512 objects have.
-pub const MAX_PAIRS: usize = 130_816;
+ghost use Rattle.std.specs.Prelude.{ℕ, ◌≡◌, ◌+◌, ◌*◌, ◌<◌, ◌≤◌};
+ghost use Rattle.std.specs.Vec.{vec_len, vec_capacity};
+ghost use Rattle.lop_ascent.specs.Places.{HasCells, IsPlaceIn};
 
 /// The place of a pair of objects i < j in tables over pairs: j(j - 1)/2 + i.
 #[derive(Clone, Copy)]
 pub struct Place {
-    index: u32,
-    ghost below: { index < 130816 },
+    pub index: u32,
 }
 
 impl Place {
@@ -19,6 +17,7 @@ impl Place {
     pub fn of(i: u16, j: u16) -> Self
         requires rising { i < j }
         requires within_limit { j < 512 }
+        ensures within { (n cells : ℕ) → j < n → HasCells n cells → IsPlaceIn cells result }
     {
         let second = u32::from(j);
         Place {
@@ -28,8 +27,16 @@ impl Place {
 
     #[inline]
     pub fn index(self) -> usize
-        ensures { result < 130816 }
+        ensures { result ≡ self.index }
     {
         self.index as usize
     }
+}
+
+/// How many cells a table over the pairs of n objects has: one a pair, and one more, so that there is always one.
+pub fn cells_for(n: u16) -> usize
+    ensures { HasCells n result }
+{
+    let n = usize::from(n);
+    n * n.saturating_sub(1) / 2 + 1
 }

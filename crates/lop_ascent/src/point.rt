@@ -26,20 +26,22 @@ fn value_of(fixings: &Fixings, variable: &Variable, i: u16, j: u16) -> u64
 
 /// Writes the value of the pair of i and j.
 fn write_pair(variables: &[Variable], fixings: &Fixings, into: &mut Point, i: u16, j: u16)
-    requires variables { length variables.now ≡ 130816 }
     requires same_n { fixings.now.size ≡ into.old.size }
     requires rising { i < j }
     requires below { j < fixings.now.size }
     requires within_limit { fixings.now.size ≤ 512 }
     ensures { IsPairWritten fixings.now.pairs i j into.old into.new }
 {
-    let variable = &variables[Place::of(i, j).index()];
-    into.set(i, j, value_of(fixings, variable, i, j));
+    let variable = variables.get(Place::of(i, j).index());
+    into.set(
+        i,
+        j,
+        value_of(fixings, variable.unwrap_or(&Variable::NONE), i, j),
+    );
 }
 
-/// Writes the values of all pairs. O(n²).
+/// Writes the values of all pairs. One of objects that have no variable is as at 0, unless it is fixed. O(n²).
 pub fn write_point(variables: &[Variable], fixings: &Fixings, into: &mut Point)
-    requires variables { length variables.now ≡ 130816 }
     requires same_n { fixings.now.size ≡ into.old.size }
     ensures size { into.new.size ≡ into.old.size }
     ensures fixed { HasFixings fixings.now.pairs into.new }

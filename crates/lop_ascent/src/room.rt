@@ -1,12 +1,15 @@
 ghost use Rattle.std.specs.Prelude.{◌≡◌, ◌≢◌, ◌+◌, ◌<◌, ◌≤◌, ◌^◌, [], ◌∷◌, ◌++◌, length, All, pos, ◌≤ℤ◌, IfOk};
 ghost use Rattle.lop_cuts.specs.Kind.{FitsCut};
 
-use crate::hints::{has_cut, no_hints, push_cut, push_row, remove_idle, set_hint, write_hints};
+use crate::hints::{
+    has_cut, least_kept, no_hints, push_cut, push_row, remove_idle, set_hint, write_hints,
+};
 use crate::objective::{Scale, Variable, load_variables, scale_of};
-use crate::place::{MAX_PAIRS, Place};
+use crate::place::{Place, cells_for};
 use crate::point::write_point;
-use crate::rows::{MAX_ENTRIES, Row, copy_back, lay_out, row_of, slack_of};
+use crate::rows::{MAX_ENTRIES, Row, compact, push_entries, push_span, row_of};
 use crate::run::{begin, keep, next_weight, settle_point, start_variables, step_at};
+use crate::span::Span;
 use crate::step::{Step, move_rows, move_variables, value_of_pairs};
 use lop_cuts::{Cut, Point};
 use lop_fix::Fixings;
@@ -41,23 +44,24 @@ pub struct AscentRoom {
     ahead: Vec<i32>,
     cuts: Vec<Cut>,
     rows: Vec<Row>,
+    spans: Vec<Span>,
     entries: Vec<Place>,
+    spare_spans: Vec<Span>,
     spare: Vec<Place>,
-    used: usize,
     hints: Vec<i64>,
 }
 
 impl Model for AscentRoom {
-    ghost use Rattle.std.specs.Prelude.{◌≡◌, ◌*◌, ◌≤◌, take};
+    ghost use Rattle.std.specs.Prelude.{take};
     ghost use Rattle.std.specs.Vec.{vec_len, vec_capacity};
     ghost use Rattle.lop_ascent.specs.Rows.{AscentRows};
-    ghost use Rattle.lop_ascent.specs.Room.{IsRoom};
+    ghost use Rattle.lop_ascent.specs.Room.{IsRoom, HasRoom};
 
     ghost Value = { AscentRows };
 
     ghost view = { λ r. record { size = r.size; cuts = r.cuts.items; duals = take (vec_len r.cuts) r.hints.items } };
 
-    ghost invariant = { λ r. IsRoom r.size r.pairs (vec_len r.variables) (vec_len r.reduced) (vec_len r.ahead) (vec_len r.entries) (vec_len r.spare) r.used r.cuts.items (vec_len r.rows) r.hints.items × (4096 ≤ vec_capacity r.cuts) × (4096 ≤ vec_capacity r.rows) };
+    ghost invariant = { λ r. IsRoom r.size r.pairs (vec_len r.variables) (vec_len r.reduced) (vec_len r.ahead) r.entries.items r.spans.items r.cuts.items (vec_len r.rows) r.hints.items × HasRoom (vec_capacity r.cuts) (vec_capacity r.rows) (vec_capacity r.spans) (vec_capacity r.entries) (vec_capacity r.spare_spans) (vec_capacity r.spare) };
 }
 
 impl AscentRoom {
@@ -66,11 +70,12 @@ impl AscentRoom {
     ghost use Rattle.lop_ascent.specs.Duals.{AreDuals};
     ghost use Rattle.lop_ascent.specs.AtFixings.{HasFixings};
 
-    /// Takes about 10 MB. It has no row.
+    /// Takes 22 n² bytes, and leaves 4 MB unwritten until there are rows. It has no row.
     pub fn new(alloc: Global, n: u16) -> Result<Self, AllocError>
         requires { n ≤ 512 }
         ensures { IfOk result (λ r. r ≡ no_rows n) }
     {
+        let cells = cells_for(n);
         Ok(AscentRoom {
             size: n,
             pairs: 0,
@@ -78,14 +83,15 @@ impl AscentRoom {
             weight: 0,
             least: 0,
             started: false,
-            variables: vec![in alloc; Variable::NONE; MAX_PAIRS]?,
-            reduced: vec![in alloc; 0; MAX_PAIRS]?,
-            ahead: vec![in alloc; 0; MAX_PAIRS]?,
+            variables: vec![in alloc; Variable::NONE; cells]?,
+            reduced: vec![in alloc; 0; cells]?,
+            ahead: vec![in alloc; 0; cells]?,
             cuts: Vec::with_capacity(alloc, MAX_ROWS)?,
             rows: Vec::with_capacity(alloc, MAX_ROWS)?,
-            entries: vec![in alloc; Place::FIRST; MAX_ENTRIES]?,
-            spare: vec![in alloc; Place::FIRST; MAX_ENTRIES]?,
-            used: 0,
+            spans: Vec::with_capacity(alloc, MAX_ROWS)?,
+            entries: Vec::with_capacity(alloc, MAX_ENTRIES)?,
+            spare_spans: Vec::with_capacity(alloc, MAX_ROWS)?,
+            spare: Vec::with_capacity(alloc, MAX_ENTRIES)?,
             hints: no_hints(alloc)?,
         })
     }
@@ -109,16 +115,17 @@ impl AscentRoom {
         requires same_n { fixings.now.size ≡ weights.now.size }
         ensures { self.new ≡ no_rows self.old.size }
     {
-        let n = weights.n() as usize;
-        self.pairs = n * (n - 1) / 2;
+        let n = weights.n().min(self.size);
+        self.pairs = (cells_for(n) - 1).min(self.variables.len());
         self.scale = scale_of(weights);
-        let mean = load_variables(weights, fixings, self.scale, &mut self.variables);
+        let mean = load_variables(n, weights, fixings, self.scale, &mut self.variables);
         self.weight = mean / 2;
         self.least = i64::MAX;
         self.started = false;
         self.cuts.clear();
         self.rows.clear();
-        self.used = 0;
+        self.spans.clear();
+        self.entries.clear();
     }
 
     /// Appends a cut, with a multiplier of a record of that scale, or 0.
@@ -136,10 +143,14 @@ impl AscentRoom {
         }
         let by = self.scale.multiplier(multiplier, scale);
         let _kind = cut.kind();
-        let row = row_of(&mut self.entries, self.used, cut, by);
+        let arcs = cut.arcs();
         set_hint(&mut self.hints, self.rows.len(), by, self.scale.lift());
-        self.used = row.span.end as usize;
-        push_row(&mut self.rows, row);
+        let span = push_entries(&mut self.entries, arcs.as_slice());
+        push_span(&mut self.spans, span);
+        push_row(
+            &mut self.rows,
+            row_of(arcs.as_slice(), cut.right_side(), by),
+        );
         push_cut(&mut self.cuts, cut);
         RowReply::Added
     }
@@ -150,15 +161,42 @@ impl AscentRoom {
         ensures among { AreAmongCuts self.new.cuts self.old.cuts }
         ensures count { result + length self.new.cuts ≡ length self.old.cuts }
     {
+        self.drop_below(0)
+    }
+
+    /// Takes out the idle rows, and those of the least kept multipliers where more than `most` rows would be left. What
+    /// the next run meets first is kept, though its bound may be greater than that before. O(rows) for each of at most
+    /// 400 multipliers that are tried, and O(entries).
+    pub fn drop_least_rows(&mut self, most: usize) -> usize
+        ensures size { self.new.size ≡ self.old.size }
+        ensures among { AreAmongCuts self.new.cuts self.old.cuts }
+        ensures count { result + length self.new.cuts ≡ length self.old.cuts }
+    {
+        let least = least_kept(&self.rows, most);
+        self.least = i64::MAX;
+        self.drop_below(least)
+    }
+
+    fn drop_below(&mut self, least: i64) -> usize
+        ensures size { self.new.size ≡ self.old.size }
+        ensures among { AreAmongCuts self.new.cuts self.old.cuts }
+        ensures count { result + length self.new.cuts ≡ length self.old.cuts }
+    {
         let before = self.rows.len();
         remove_idle(
             &mut self.rows,
             &mut self.cuts,
+            &mut self.spans,
             &self.entries,
             &self.variables,
+            least,
         );
-        self.used = lay_out(&mut self.rows, &self.entries, &mut self.spare);
-        copy_back(&mut self.entries, &self.spare, self.used);
+        compact(
+            &mut self.spans,
+            &mut self.entries,
+            &mut self.spare_spans,
+            &mut self.spare,
+        );
         write_hints(&self.rows, &mut self.hints, self.scale.lift());
         before - self.rows.len()
     }
@@ -240,6 +278,7 @@ impl AscentRoom {
         }
         Some(move_rows(
             &mut self.rows,
+            &self.spans,
             &self.entries,
             &self.ahead,
             &mut self.reduced,
@@ -278,7 +317,13 @@ impl AscentRoom {
         if let Some(rows) = end {
             let pairs = value_of_pairs(&self.variables, &self.reduced, self.pairs);
             let _low = self.note(rows.wrapping_add(pairs), threshold);
-            self.weight = next_weight(&self.variables, self.pairs, &self.rows, self.weight);
+            self.weight = next_weight(
+                &self.variables,
+                self.pairs,
+                &self.rows,
+                &self.spans,
+                self.weight,
+            );
         }
     }
 
@@ -290,8 +335,8 @@ impl AscentRoom {
         let bound = begin(
             &mut self.variables,
             &mut self.rows,
+            &self.spans,
             &self.entries,
-            self.used,
             &mut self.reduced,
             self.pairs,
         );

@@ -1,16 +1,16 @@
 // The rows: each cut as a signed sum over pairs. The variable of an arc from i to j with i < j counts as it stands, and
 // that of an arc to a lower object counts 1 less the variable, so the row is "the sum of sign times variable is at most
 // the right side less the number of arcs to lower objects".
-ghost use Rattle.std.specs.Prelude.{◌≡◌, ◌+◌, ◌*◌, ◌<◌, ◌≤◌, length, All};
-ghost use Rattle.lop_cuts.specs.Kind.{FitsCut, IsArcBelow};
+ghost use Rattle.std.specs.Prelude.{ℕ, ◌≡◌, ◌+◌, ◌*◌, ◌<◌, ◌≤◌, [], ◌∷◌, ◌++◌, length, All};
+ghost use Rattle.std.specs.Vec.{vec_len, vec_capacity};
+ghost use Rattle.lop_cuts.specs.Kind.{IsArcBelow};
+ghost use Rattle.lop_ascent.specs.Places.{HasCells, IsPlaceIn, IsSpanIn, AreLaidOut};
 
 use crate::objective::{FRACTION, Variable};
 use crate::place::Place;
-use lop_cuts::Cut;
+use crate::span::Span;
 use lop_model::Pair;
-
-/// The most entries that a row has.
-pub const MAX_ARCS: usize = 64;
+use std::mem;
 
 /// The most entries that the rows have together.
 pub const MAX_ENTRIES: usize = 262_144;
@@ -18,33 +18,9 @@ pub const MAX_ENTRIES: usize = 262_144;
 /// The greatest multiplier, in the unit of the objective.
 pub const MAX_MULTIPLIER: i64 = 4_398_046_511_104;
 
-/// Where the entries of a row lie in the list of all entries: those of one sign and then those of the other.
-#[derive(Clone, Copy)]
-pub struct Span {
-    pub start: u32,
-    pub middle: u32,
-    pub end: u32,
-    ghost rising: { start ≤ middle },
-    ghost ordered: { middle ≤ end },
-    ghost within: { end ≤ 262144 },
-    ghost few: { end ≤ start + 64 },
-}
-
-impl Span {
-    /// The number of entries.
-    #[inline]
-    pub fn len(self) -> u32
-        ensures value { result + self.start ≡ self.end }
-        ensures few { result ≤ 64 }
-    {
-        self.end - self.start
-    }
-}
-
-/// A row, with its multipliers in the unit of the objective.
+/// A row but for its entries, with its multipliers in the unit of the objective.
 #[derive(Clone, Copy)]
 pub struct Row {
-    pub span: Span,
     /// The right side less the number of arcs to lower objects.
     pub side: i32,
     /// 2^20 over the number of entries.
@@ -59,6 +35,7 @@ pub struct Row {
 /// The place of an arc's pair.
 fn place_of(arc: Pair) -> Place
     requires { IsArcBelow 512 arc }
+    ensures { (n cells : ℕ) → IsArcBelow n arc → HasCells n cells → IsPlaceIn cells result }
 {
     if arc.before < arc.after {
         Place::of(arc.before, arc.after)
@@ -83,15 +60,49 @@ fn count_falling(arcs: &[Pair]) -> u32
     count
 }
 
-/// Writes the places of the arcs: from the front those that rise, if `rising` is true, else those that fall, and the
-/// others from the end. Answers where the first kind ends. O(arcs).
-fn write_places(entries: &mut [Place], arcs: &[Pair], rising: bool) -> usize
-    requires same_length { length entries.old ≡ length arcs.now }
-    requires below { All (IsArcBelow 512) arcs.now }
-    ensures { result ≤ length arcs.now }
+/// Appends a place, for which there is room.
+fn push_place(entries: &mut Vec<Place>, place: Place)
+    requires room { vec_len entries.old < vec_capacity entries.old }
+    ensures items { entries.new.items ≡ entries.old.items ++ place ∷ [] }
+    ensures len { vec_len entries.new ≡ vec_len entries.old + 1 }
+    ensures capacity { vec_capacity entries.old ≤ vec_capacity entries.new }
 {
-    let mut front = 0;
-    let mut back = entries.len();
+    entries.push(place).unwrap();
+}
+
+/// Appends a span, for which there is room.
+pub fn push_span(spans: &mut Vec<Span>, span: Span)
+    requires room { vec_len spans.old < vec_capacity spans.old }
+    ensures items { spans.new.items ≡ spans.old.items ++ span ∷ [] }
+    ensures len { vec_len spans.new ≡ vec_len spans.old + 1 }
+    ensures capacity { vec_capacity spans.old ≤ vec_capacity spans.new }
+{
+    spans.push(span).unwrap();
+}
+
+/// Appends so many entries, for which there is room, that are to be written. O(count).
+fn push_places(entries: &mut Vec<Place>, count: usize)
+    requires room { vec_len entries.old + count ≤ vec_capacity entries.old }
+    ensures len { vec_len entries.new ≡ vec_len entries.old + count }
+    ensures capacity { vec_capacity entries.old ≤ vec_capacity entries.new }
+    ensures places { (n cells : ℕ) → HasCells n cells → All (IsPlaceIn cells) entries.old.items → All (IsPlaceIn cells) entries.new.items }
+{
+    for _index in 0..count {
+        push_place(entries, Place::FIRST);
+    }
+}
+
+/// Writes the places of the arcs from `at` on: first those that rise, if `rising` is true, else those that fall, and the
+/// others from the end. Answers where the first kind ends. O(arcs).
+fn write_places(entries: &mut [Place], at: usize, arcs: &[Pair], rising: bool) -> usize
+    requires room { at + length arcs.now ≤ length entries.old }
+    requires below { All (IsArcBelow 512) arcs.now }
+    ensures from { at ≤ result }
+    ensures to { result ≤ at + length arcs.now }
+    ensures places { (n cells : ℕ) → HasCells n cells → All (IsArcBelow n) arcs.now → All (IsPlaceIn cells) entries.old → All (IsPlaceIn cells) entries.new }
+{
+    let mut front = at;
+    let mut back = at + arcs.len();
     for arc in arcs {
         if (arc.before < arc.after) == rising {
             entries[front] = place_of(*arc);
@@ -104,37 +115,37 @@ fn write_places(entries: &mut [Place], arcs: &[Pair], rising: bool) -> usize
     front
 }
 
-/// Writes the entries of a cut from `at` on, and answers its row. Of three entries the first two have the same sign.
+/// Appends the entries of a cut's arcs, and answers where they lie. Of three entries the first two have the same sign.
 /// O(arcs).
-pub fn row_of(entries: &mut [Place], at: usize, cut: &Cut, by: i64) -> Row
-    requires whole { length entries.old ≡ 262144 }
-    requires room { at + 64 ≤ 262144 }
-    requires fits { FitsCut 512 cut.now }
-    ensures { result.span.end ≤ at + 64 }
-{
-    let all = cut.arcs();
-    signed_row(entries, at, all.as_slice(), cut.right_side(), by)
-}
-
-fn signed_row(entries: &mut [Place], at: usize, arcs: &[Pair], right_side: u32, by: i64) -> Row
-    requires whole { length entries.old ≡ 262144 }
-    requires room { at + 64 ≤ 262144 }
+pub fn push_entries(entries: &mut Vec<Place>, arcs: &[Pair]) -> Span
+    requires room { vec_len entries.old + 64 ≤ 262144 }
+    requires capacity { 262144 ≤ vec_capacity entries.old }
     requires few { length arcs.now ≤ 64 }
     requires below { All (IsArcBelow 512) arcs.now }
-    requires side { right_side ≤ 64 }
-    ensures { result.span.end ≤ at + 64 }
+    ensures few { vec_len entries.new ≤ vec_len entries.old + 64 }
+    ensures capacity { 262144 ≤ vec_capacity entries.new }
+    ensures more { vec_len entries.old ≤ vec_len entries.new }
+    ensures span { IsSpanIn (vec_len entries.new) result }
+    ensures places { (n cells : ℕ) → HasCells n cells → All (IsArcBelow n) arcs.now → All (IsPlaceIn cells) entries.old.items → All (IsPlaceIn cells) entries.new.items }
 {
-    let falling = count_falling(arcs);
-    let rising_first = arcs.len() != 3 || falling == 1;
-    let end = at + arcs.len();
-    let middle = at + write_places(&mut entries[at..end], arcs, rising_first);
+    let rising_first = arcs.len() != 3 || count_falling(arcs) == 1;
+    let at = entries.len();
+    push_places(entries, arcs.len());
+    let middle = write_places(entries, at, arcs, rising_first);
+    Span {
+        start: at as u32,
+        middle: middle as u32,
+        end: entries.len() as u32,
+    }
+}
+
+/// The row of a cut with these arcs.
+pub fn row_of(arcs: &[Pair], right_side: u32, by: i64) -> Row
+    requires few { length arcs.now ≤ 64 }
+    requires side { right_side ≤ 64 }
+{
     Row {
-        span: Span {
-            start: at as u32,
-            middle: middle as u32,
-            end: end as u32,
-        },
-        side: right_side as i32 - falling as i32,
+        side: right_side as i32 - count_falling(arcs) as i32,
         inverse: (1_048_576 / arcs.len().max(1)) as i32,
         now: by,
         anchor: by,
@@ -142,63 +153,83 @@ fn signed_row(entries: &mut [Place], at: usize, arcs: &[Pair], right_side: u32, 
     }
 }
 
-/// Copies the entries of a row to `at` in another list. O(entries).
-fn copy_entries(from: &[Place], span: Span, to: &mut [Place], at: usize) -> Span
-    requires from { length from.now ≡ 262144 }
-    requires to { length to.old ≡ 262144 }
-    requires room { at + 64 ≤ 262144 }
-    ensures { result.end ≤ at + 64 }
+/// Copies the entries of a row to the end of another list, where there is room. O(entries).
+fn copy_entries(from: &[Place], span: Span, to: &mut Vec<Place>) -> Span
+    requires span { IsSpanIn (length from.now) span }
+    requires room { vec_len to.old + 64 ≤ 262144 }
+    requires capacity { 262144 ≤ vec_capacity to.old }
+    ensures few { vec_len to.new ≤ vec_len to.old + 64 }
+    ensures more { vec_len to.old ≤ vec_len to.new }
+    ensures capacity { 262144 ≤ vec_capacity to.new }
+    ensures span { IsSpanIn (vec_len to.new) result }
+    ensures places { (cells : ℕ) → All (IsPlaceIn cells) from.now → All (IsPlaceIn cells) to.old.items → All (IsPlaceIn cells) to.new.items }
 {
-    let start = span.start as usize;
-    let end = span.end as usize;
-    let len = end - start;
-    let middle = at + (span.middle - span.start) as usize;
-    to[at..at + len].copy_from_slice(&from[start..end]);
+    let start = to.len() as u32;
+    for at in span.start as usize..span.end as usize {
+        push_place(to, from[at]);
+    }
     Span {
-        start: at as u32,
-        middle: middle as u32,
-        end: (at + len) as u32,
+        start,
+        middle: start + (span.middle - span.start),
+        end: start + span.len(),
     }
 }
 
-/// Lays the entries of the rows one after another in another list, and answers how many there are. O(entries).
-pub fn lay_out(rows: &mut [Row], from: &[Place], to: &mut [Place]) -> usize
-    requires few { length rows.old ≤ 4096 }
-    requires from { length from.now ≡ 262144 }
-    requires to { length to.old ≡ 262144 }
-    ensures { result ≤ 64 * length rows.old }
+/// Lays the entries of the rows one after another in other lists. O(entries).
+fn lay_out(spans: &[Span], entries: &[Place], to: &mut Vec<Span>, into: &mut Vec<Place>)
+    requires spans { All (IsSpanIn (length entries.now)) spans.now }
+    requires few { length spans.now ≤ 4096 }
+    requires to_room { 4096 ≤ vec_capacity to.old }
+    requires into_room { 262144 ≤ vec_capacity into.old }
+    ensures len { vec_len to.new ≡ length spans.now }
+    ensures laid_out { AreLaidOut entries.now into.new.items to.new.items }
+    ensures to_room { 4096 ≤ vec_capacity to.new }
+    ensures into_room { 262144 ≤ vec_capacity into.new }
 {
-    let mut at = 0;
-    for row in rows.iter_mut() {
-        row.span = copy_entries(from, row.span, to, at);
-        at = row.span.end as usize;
+    to.clear();
+    into.clear();
+    for span in spans {
+        let laid = copy_entries(entries, *span, into);
+        push_span(to, laid);
     }
-    at
 }
 
-/// Copies the entries that are in use. O(entries).
-pub fn copy_back(entries: &mut [Place], from: &[Place], used: usize)
-    requires whole { length entries.old ≡ 262144 }
-    requires from { length from.now ≡ 262144 }
-    requires used { used ≤ 262144 }
+/// Moves the entries of the rows together, by way of the other two lists. O(entries).
+pub fn compact(
+    spans: &mut Vec<Span>,
+    entries: &mut Vec<Place>,
+    spare_spans: &mut Vec<Span>,
+    spare: &mut Vec<Place>,
+)
+    requires within { All (IsSpanIn (vec_len entries.old)) spans.old.items }
+    requires few { vec_len spans.old ≤ 4096 }
+    requires spans_room { 4096 ≤ vec_capacity spans.old }
+    requires entries_room { 262144 ≤ vec_capacity entries.old }
+    requires spare_spans_room { 4096 ≤ vec_capacity spare_spans.old }
+    requires spare_room { 262144 ≤ vec_capacity spare.old }
+    ensures len { vec_len spans.new ≡ vec_len spans.old }
+    ensures laid_out { AreLaidOut entries.old.items entries.new.items spans.new.items }
+    ensures spans_room { 4096 ≤ vec_capacity spans.new }
+    ensures entries_room { 262144 ≤ vec_capacity entries.new }
+    ensures spare_spans_room { 4096 ≤ vec_capacity spare_spans.new }
+    ensures spare_room { 262144 ≤ vec_capacity spare.new }
 {
-    entries[..used].copy_from_slice(&from[..used]);
+    lay_out(spans, entries, spare_spans, spare);
+    mem::swap(spans, spare_spans);
+    mem::swap(entries, spare);
 }
 
 /// By how much the row's sum at the point is below its side. O(entries).
-pub fn slack_of(row: &Row, entries: &[Place], variables: &[Variable]) -> i64
-    requires entries { length entries.now ≡ 262144 }
-    requires variables { length variables.now ≡ 130816 }
+pub fn slack_of(row: &Row, span: Span, entries: &[Place], variables: &[Variable]) -> i64
+    requires span { IsSpanIn (length entries.now) span }
+    requires places { All (IsPlaceIn (length variables.now)) entries.now }
 {
     let first = sum_of(
-        &entries[row.span.start as usize..row.span.middle as usize],
+        &entries[span.start as usize..span.middle as usize],
         variables,
     );
-    let second = sum_of(
-        &entries[row.span.middle as usize..row.span.end as usize],
-        variables,
-    );
-    let sum = if row.span.len() == 3 && row.side == 0 {
+    let second = sum_of(&entries[span.middle as usize..span.end as usize], variables);
+    let sum = if span.len() == 3 && row.side == 0 {
         second.wrapping_sub(first)
     } else {
         first.wrapping_sub(second)
@@ -207,7 +238,7 @@ pub fn slack_of(row: &Row, entries: &[Place], variables: &[Variable]) -> i64
 }
 
 fn sum_of(places: &[Place], variables: &[Variable]) -> i64
-    requires { length variables.now ≡ 130816 }
+    requires { All (IsPlaceIn (length variables.now)) places.now }
 {
     let mut sum: i64 = 0;
     for place in places {

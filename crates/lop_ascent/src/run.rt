@@ -1,10 +1,12 @@
 // A run: one epoch of a Halpern iteration of the primal-dual hybrid gradient operator (Chambolle and Pock 2011; Lu and
 // Yang 2024), in whole numbers.
-ghost use Rattle.std.specs.Prelude.{◌≡◌, ◌<◌, ◌≤◌, length};
+ghost use Rattle.std.specs.Prelude.{◌≡◌, ◌<◌, ◌≤◌, length, All};
+ghost use Rattle.lop_ascent.specs.Places.{IsPlaceIn, IsSpanIn};
 
 use crate::objective::Variable;
 use crate::place::Place;
 use crate::rows::Row;
+use crate::span::Span;
 use crate::step::{Step, charge_rows};
 
 /// The least and the greatest weight of the point against the multipliers.
@@ -19,7 +21,7 @@ fn inverse_of(count: i64) -> i32 {
 
 /// Counts for each pair the rows that have it. O(entries + pairs).
 fn count_rows(entries: &[Place], counts: &mut [i64])
-    requires { length counts.old ≡ 130816 }
+    requires { All (IsPlaceIn (length counts.old)) entries.now }
 {
     for place in entries {
         let at = place.index();
@@ -30,9 +32,8 @@ fn count_rows(entries: &[Place], counts: &mut [i64])
 /// Puts the variables where the run begins, with the numbers of rows that the counts give, and the objectives in the
 /// place of the counts. O(pairs).
 fn anchor_variables(variables: &mut [Variable], counts: &mut [i64], pairs: usize)
-    requires variables { length variables.old ≡ 130816 }
-    requires counts { length counts.old ≡ 130816 }
-    requires pairs { pairs ≤ 130816 }
+    requires variables { pairs ≤ length variables.old }
+    requires counts { pairs ≤ length counts.old }
 {
     for p in 0..pairs {
         let variable = &mut variables[p];
@@ -52,24 +53,24 @@ fn anchor_rows(rows: &mut [Row]) {
 pub fn begin(
     variables: &mut [Variable],
     rows: &mut [Row],
+    spans: &[Span],
     entries: &[Place],
-    used: usize,
     reduced: &mut [i64],
     pairs: usize,
 ) -> i64
-    requires variables { length variables.old ≡ 130816 }
-    requires reduced { length reduced.old ≡ 130816 }
-    requires pairs { pairs ≤ 130816 }
-    requires entries { length entries.now ≡ 262144 }
-    requires used { used ≤ 262144 }
+    requires variables { pairs ≤ length variables.old }
+    requires reduced { pairs ≤ length reduced.old }
+    requires same_rows { length spans.now ≡ length rows.old }
+    requires spans { All (IsSpanIn (length entries.now)) spans.now }
+    requires places { All (IsPlaceIn (length reduced.old)) entries.now }
 {
     for count in reduced.iter_mut() {
         *count = 0;
     }
-    count_rows(&entries[..used], reduced);
+    count_rows(entries, reduced);
     anchor_variables(variables, reduced, pairs);
     anchor_rows(rows);
-    charge_rows(rows, entries, reduced)
+    charge_rows(rows, spans, entries, reduced)
 }
 
 /// Keeps the multipliers as they stand. O(rows).
@@ -81,9 +82,8 @@ pub fn keep(rows: &mut [Row]) {
 
 /// Where pairs are free, the side of their objective; elsewhere the value at which they are fixed. O(pairs).
 pub fn start_variables(variables: &mut [Variable], reduced: &[i64], pairs: usize)
-    requires variables { length variables.old ≡ 130816 }
-    requires reduced { length reduced.now ≡ 130816 }
-    requires pairs { pairs ≤ 130816 }
+    requires variables { pairs ≤ length variables.old }
+    requires reduced { pairs ≤ length reduced.now }
 {
     for p in 0..pairs {
         let variable = &mut variables[p];
@@ -103,8 +103,7 @@ pub fn start_variables(variables: &mut [Variable], reduced: &[i64], pairs: usize
 
 /// Leaves the last point that was computed. O(pairs).
 pub fn settle_point(variables: &mut [Variable], pairs: usize)
-    requires variables { length variables.old ≡ 130816 }
-    requires pairs { pairs ≤ 130816 }
+    requires { pairs ≤ length variables.old }
 {
     for p in 0..pairs {
         let variable = &mut variables[p];
@@ -136,19 +135,21 @@ fn width_of(weight: i64) -> u32 {
 }
 
 /// The squared distance that the multipliers went, each by its number of entries. O(rows).
-fn distance_of_rows(rows: &[Row]) -> u128 {
+fn distance_of_rows(rows: &[Row], spans: &[Span]) -> u128
+    requires { length spans.now ≡ length rows.now }
+{
     let mut sum: u128 = 0;
-    for row in rows {
+    for r in 0..rows.len() {
+        let row = &rows[r];
         let by = u128::from(row.now.wrapping_sub(row.anchor).unsigned_abs());
-        sum = sum.wrapping_add(by.wrapping_mul(by).wrapping_mul(u128::from(row.span.len())));
+        sum = sum.wrapping_add(by.wrapping_mul(by).wrapping_mul(u128::from(spans[r].len())));
     }
     sum
 }
 
 /// The squared distance that the point went, each variable by the number of its rows: 2^25 over it. O(pairs).
 fn distance_of_point(variables: &[Variable], pairs: usize) -> u128
-    requires variables { length variables.now ≡ 130816 }
-    requires pairs { pairs ≤ 130816 }
+    requires { pairs ≤ length variables.now }
 {
     let mut sum: u128 = 0;
     for p in 0..pairs {
@@ -162,11 +163,17 @@ fn distance_of_point(variables: &[Variable], pairs: usize) -> u128
 }
 
 /// The weight for the next run: the square root of this one times the ratio of the distances, within its limits.
-pub fn next_weight(variables: &[Variable], pairs: usize, rows: &[Row], weight: i64) -> i64
-    requires variables { length variables.now ≡ 130816 }
-    requires pairs { pairs ≤ 130816 }
+pub fn next_weight(
+    variables: &[Variable],
+    pairs: usize,
+    rows: &[Row],
+    spans: &[Span],
+    weight: i64,
+) -> i64
+    requires variables { pairs ≤ length variables.now }
+    requires same_rows { length spans.now ≡ length rows.now }
 {
-    let multipliers = distance_of_rows(rows);
+    let multipliers = distance_of_rows(rows, spans);
     let point = distance_of_point(variables, pairs);
     if multipliers == 0 || point < 1_048_576 {
         return weight;

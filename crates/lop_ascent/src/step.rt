@@ -1,10 +1,12 @@
 // The loops of a step. Sums and products here wrap: the clamps keep them below 2^63, and what is handed on is put within
 // its limits once more.
-ghost use Rattle.std.specs.Prelude.{◌≡◌, ◌<◌, ◌≤◌, length};
+ghost use Rattle.std.specs.Prelude.{◌≡◌, ◌<◌, ◌≤◌, length, All};
+ghost use Rattle.lop_ascent.specs.Places.{IsPlaceIn, IsSpanIn};
 
 use crate::objective::{FRACTION, ONE, Variable};
 use crate::place::Place;
 use crate::rows::{MAX_MULTIPLIER, Row};
+use crate::span::Span;
 
 /// What a step of a run is made with: a Halpern iteration goes `forth` parts of 65,536 to the reflected image of where
 /// it stands and `back` parts to where the run began.
@@ -59,10 +61,9 @@ pub fn move_variables(
     pairs: usize,
     step: Step,
 ) -> i64
-    requires variables { length variables.old ≡ 130816 }
-    requires reduced { length reduced.old ≡ 130816 }
-    requires ahead { length ahead.old ≡ 130816 }
-    requires pairs { pairs ≤ 130816 }
+    requires variables { pairs ≤ length variables.old }
+    requires reduced { pairs ≤ length reduced.old }
+    requires ahead { pairs ≤ length ahead.old }
 {
     let mut bound: i64 = 0;
     for p in 0..pairs {
@@ -77,7 +78,7 @@ pub fn move_variables(
 
 #[inline]
 fn sum_at(ahead: &[i32], places: &[Place]) -> i64
-    requires { length ahead.now ≡ 130816 }
+    requires { All (IsPlaceIn (length ahead.now)) places.now }
 {
     let mut sum: i64 = 0;
     for place in places {
@@ -88,7 +89,7 @@ fn sum_at(ahead: &[i32], places: &[Place]) -> i64
 
 #[inline]
 fn charge(reduced: &mut [i64], places: &[Place], by: i64)
-    requires { length reduced.old ≡ 130816 }
+    requires { All (IsPlaceIn (length reduced.old)) places.now }
 {
     for place in places {
         let at = place.index();
@@ -126,11 +127,10 @@ fn move_triple(
     reduced: &mut [i64],
     step: Step,
 ) -> i64
-    requires first { first < 130816 }
-    requires second { second < 130816 }
-    requires third { third < 130816 }
-    requires ahead { length ahead.now ≡ 130816 }
-    requires reduced { length reduced.old ≡ 130816 }
+    requires first { first < length ahead.now }
+    requires second { second < length ahead.now }
+    requires third { third < length ahead.now }
+    requires same { length reduced.old ≡ length ahead.now }
 {
     let pair = i64::from(ahead[first]).wrapping_add(i64::from(ahead[second]));
     let sum = pair.wrapping_sub(i64::from(ahead[third]));
@@ -165,8 +165,9 @@ fn move_long(
     reduced: &mut [i64],
     step: Step,
 ) -> i64
-    requires ahead { length ahead.now ≡ 130816 }
-    requires reduced { length reduced.old ≡ 130816 }
+    requires rising { All (IsPlaceIn (length ahead.now)) rising.now }
+    requires falling { All (IsPlaceIn (length ahead.now)) falling.now }
+    requires same { length reduced.old ≡ length ahead.now }
 {
     let sum = sum_at(ahead, rising).wrapping_sub(sum_at(ahead, falling));
     let slack = (i64::from(row.side) << FRACTION).wrapping_sub(sum);
@@ -184,71 +185,95 @@ fn move_long(
     to.wrapping_mul(i64::from(row.side))
 }
 
-/// Moves the multipliers of all rows, charges the pairs, and answers what the rows add to the bound. O(entries).
-pub fn move_rows(
-    rows: &mut [Row],
+/// Moves the multiplier of a row with any number of entries. O(entries).
+#[inline]
+fn move_row(
+    row: &mut Row,
+    span: Span,
     entries: &[Place],
     ahead: &[i32],
     reduced: &mut [i64],
     step: Step,
 ) -> i64
-    requires entries { length entries.now ≡ 262144 }
-    requires ahead { length ahead.now ≡ 130816 }
-    requires reduced { length reduced.old ≡ 130816 }
+    requires span { IsSpanIn (length entries.now) span }
+    requires places { All (IsPlaceIn (length ahead.now)) entries.now }
+    requires same { length reduced.old ≡ length ahead.now }
+{
+    let start = span.start as usize;
+    if span.len() == 3 {
+        let first = entries[start].index();
+        let second = entries[start + 1].index();
+        let third = entries[start + 2].index();
+        return move_triple(row, first, second, third, ahead, reduced, step);
+    }
+    let middle = span.middle as usize;
+    let end = span.end as usize;
+    move_long(
+        row,
+        &entries[start..middle],
+        &entries[middle..end],
+        ahead,
+        reduced,
+        step,
+    )
+}
+
+/// Moves the multipliers of all rows, charges the pairs, and answers what the rows add to the bound. O(entries).
+pub fn move_rows(
+    rows: &mut [Row],
+    spans: &[Span],
+    entries: &[Place],
+    ahead: &[i32],
+    reduced: &mut [i64],
+    step: Step,
+) -> i64
+    requires same_rows { length spans.now ≡ length rows.old }
+    requires spans { All (IsSpanIn (length entries.now)) spans.now }
+    requires places { All (IsPlaceIn (length ahead.now)) entries.now }
+    requires same { length reduced.old ≡ length ahead.now }
 {
     let mut bound: i64 = 0;
-    for row in rows.iter_mut() {
-        let span = row.span;
-        let start = span.start as usize;
-        let added = if span.len() == 3 {
-            let first = entries[start].index();
-            let second = entries[start + 1].index();
-            let third = entries[start + 2].index();
-            move_triple(row, first, second, third, ahead, reduced, step)
-        } else {
-            let middle = span.middle as usize;
-            let end = span.end as usize;
-            move_long(
-                row,
-                &entries[start..middle],
-                &entries[middle..end],
-                ahead,
-                reduced,
-                step,
-            )
-        };
-        bound = bound.wrapping_add(added);
+    for r in 0..rows.len() {
+        bound = bound.wrapping_add(move_row(&mut rows[r], spans[r], entries, ahead, reduced, step));
     }
     bound
 }
 
+/// Charges the pairs by a row's multiplier as it stands, and answers what it adds to the bound. O(entries).
+fn charge_row(row: &Row, span: Span, entries: &[Place], reduced: &mut [i64]) -> i64
+    requires span { IsSpanIn (length entries.now) span }
+    requires places { All (IsPlaceIn (length reduced.old)) entries.now }
+{
+    let start = span.start as usize;
+    let middle = span.middle as usize;
+    let end = span.end as usize;
+    let by = if span.len() == 3 && row.side == 0 {
+        row.now.wrapping_neg()
+    } else {
+        row.now
+    };
+    charge(reduced, &entries[start..middle], by);
+    charge(reduced, &entries[middle..end], by.wrapping_neg());
+    row.now.wrapping_mul(i64::from(row.side))
+}
+
 /// Charges the pairs by the multipliers as they stand, and answers what the rows add to the bound. O(entries).
-pub fn charge_rows(rows: &[Row], entries: &[Place], reduced: &mut [i64]) -> i64
-    requires entries { length entries.now ≡ 262144 }
-    requires reduced { length reduced.old ≡ 130816 }
+pub fn charge_rows(rows: &[Row], spans: &[Span], entries: &[Place], reduced: &mut [i64]) -> i64
+    requires same_rows { length spans.now ≡ length rows.now }
+    requires spans { All (IsSpanIn (length entries.now)) spans.now }
+    requires places { All (IsPlaceIn (length reduced.old)) entries.now }
 {
     let mut bound: i64 = 0;
-    for row in rows {
-        let start = row.span.start as usize;
-        let middle = row.span.middle as usize;
-        let end = row.span.end as usize;
-        let by = if row.span.len() == 3 && row.side == 0 {
-            row.now.wrapping_neg()
-        } else {
-            row.now
-        };
-        charge(reduced, &entries[start..middle], by);
-        charge(reduced, &entries[middle..end], by.wrapping_neg());
-        bound = bound.wrapping_add(row.now.wrapping_mul(i64::from(row.side)));
+    for r in 0..rows.len() {
+        bound = bound.wrapping_add(charge_row(&rows[r], spans[r], entries, reduced));
     }
     bound
 }
 
 /// What the pairs give at the reduced objectives. O(pairs).
 pub fn value_of_pairs(variables: &[Variable], reduced: &[i64], pairs: usize) -> i64
-    requires variables { length variables.now ≡ 130816 }
-    requires reduced { length reduced.now ≡ 130816 }
-    requires pairs { pairs ≤ 130816 }
+    requires variables { pairs ≤ length variables.now }
+    requires reduced { pairs ≤ length reduced.now }
 {
     let mut bound: i64 = 0;
     for p in 0..pairs {

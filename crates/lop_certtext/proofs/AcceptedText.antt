@@ -1,8 +1,8 @@
 -- The text of a certificate that is true is accepted.
 use Rattle.std.proofs.Common.{◌≡◌, ◌≢◌, ℕ, ◌+◌, ◌*◌, ◌^◌, ◌<◌, ◌≤◌, suc, Bool, true, false, ◌&&◌, ◌==◌, cond, List, [], ◌∷◌, ◌++◌, length, map, codes, nat_lt, nat_le, get_or, ℤ, pos, nat_abs, Option, refl, sym, ◌∙◌, ap, arith}
 use Rattle.std.specs.Prelude.{int_lt, int_le, ◌<ℤ◌, All}
-use Rattle.std.specs.List.{flat_map, list_all, list_any, slice_split}
-use Rattle.std.proofs.lemmas.Bool.{and_from, or_from, lt-ltb, le-ltb, le-leb, eq-eqb, ne_eqb}
+use Rattle.std.specs.List.{flat_map, list_all, slice_split}
+use Rattle.std.proofs.lemmas.Bool.{and_from, lt-ltb, le-ltb, le-leb, eq-eqb}
 use Rattle.std.proofs.lemmas.Int.{ints}
 use Rattle.std.proofs.lemmas.List.{append_assoc, length-map, length-append, map-append, append-nil}
 use Rattle.std.proofs.lemmas.List.Elements.{All-cons, All-head, All-tail}
@@ -27,9 +27,9 @@ use Rattle.lop_certtext.specs.LeafLine.{LeafTerms, leaf_line}
 use Rattle.lop_certtext.specs.Tree.{Tree, leaf, split, split_line, tree_lines, IsLeaf, IsTree}
 use Rattle.lop_model.specs.Reversed.{reversed}
 use Rattle.lop_certtext.specs.Certificate.{Certificate, certificate_lines, certificate_text, text_of, IsTreeCertificate}
-use Rattle.lop_certtext.specs.Answer.{TextLine, ended_line, long_line, long_file, limited, lines_from, text_lines, CheckAnswer, accepted, rejected, with_line, spelled, expect, is_version, is_objects, is_order_line, is_value, is_bound, is_cuts, is_end, only_number, are_objects, is_order, objects_step, order_step, value_step, bound_step, cuts_step, cuts_left_step, is_cut_word, with_cut, cut_step, tree_step, node_step, split_step, leaf_step, leaf_value, leaf_limit, tail_step, IsCheckAnswer}
+use Rattle.lop_certtext.specs.Answer.{TextLine, ended_line, long_line, long_file, limited, lines_from, text_lines, CheckAnswer, accepted, rejected, with_line, spelled, expect, is_version, is_objects, is_order_line, is_value, is_bound, is_cuts, is_end, only_number, is_order, version_step, objects_step, order_step, value_step, bound_step, cuts_step, cuts_left_step, is_cut_word, with_cut, cut_step, tree_step, node_step, split_step, leaf_step, leaf_value, leaf_limit, tail_step, IsCheckAnswer}
 use Rattle.lop_certtext.proofs.Lines.{All-from_free, lf_free-line_text, length-line_text, line_reading-line_text}
-use Rattle.lop_certtext.proofs.ObjectNumbers.{objects_of-numbers}
+use Rattle.lop_certtext.proofs.ObjectNumbers.{objects_of-numbers, is_order-order}
 use Rattle.lop_certtext.proofs.CutText.{cut_of-line}
 use Rattle.lop_certtext.proofs.NodeText.{leaf_of-line, split_of-line, counts-terms, length-leaf_line}
 use Rattle.lop_certtext.proofs.TreeBounds.{numbered-rising}
@@ -95,22 +95,6 @@ text_lines-text : (ls : List CertLine) → AreWritten ls → length (text_of ls)
 text_lines-text ls w fits = ap (lines_from 0) (pieces-text ls w) ∙ lines_from-text ls 0 w (omega (arith, fits))
 
 -- ---- an order
-
-are_objects-order : (n : ℕ) (taken : List ℤ) (s : List ℕ) → ((p : ℕ) → p < length s → get_or s p 0 < n) → ((p q : ℕ) → p < q → q < length s → get_or s p 0 ≢ get_or s q 0) → ((p : ℕ) → p < length s → list_any (λ y. nat_abs y == get_or s p 0 + 1) taken ≡ false) → are_objects n taken (numbers_of_objects s) ≡ true
-are_objects-order n taken [] below distinct free = refl
-are_objects-order n taken (a ∷ s) below distinct free =
-    let within : a < n = below 0 (omega arith) in
-    let others = are_objects n (pos (a + 1) ∷ taken) (numbers_of_objects s) in
-    and_from _ _
-    (and_from _ _ (le-leb 1 (a + 1) (omega arith)) (le-leb (a + 1) n (omega arith)))
-    (ap (λ (t : Bool). cond t false others) (free 0 (omega arith))
-    ∙ are_objects-order n (pos (a + 1) ∷ taken) s (λ p h. below (suc p) (omega arith)) (λ p q h k. distinct (suc p) (suc q) (omega arith) (omega arith))
-    (λ p h. let other : a ≢ get_or s p 0 = distinct 0 (suc p) (omega arith) (omega arith) in or_from _ _ (ne_eqb (a + 1) (get_or s p 0 + 1) (λ e. other (omega arith))) (free (suc p) (omega arith))))
-
-is_order-order : (n : ℕ) (s : List ℕ) → IsOrder n s → is_order n (numbers_of_objects s) ≡ true
-is_order-order n s order =
-    and_from _ _ (eq-eqb _ n (length-map s (λ a. pos (a + 1)) ∙ order.complete))
-    (are_objects-order n [] s (λ p h. order.below p (omega (arith, order.complete))) (λ p q h k. order.distinct p q h (omega (arith, order.complete))) (λ p h. refl))
 
 pub counts-order : (n : ℕ) (s : List ℕ) → n ≤ 512 → ((p : ℕ) → p < length s → get_or s p 0 < n) → list_all is_count (numbers_of_objects s) ≡ true
 counts-order n [] small below = refl
@@ -366,31 +350,31 @@ module _ (C : Matrix) (weights : IsWeights C) (c : Certificate) (holds : IsTreeC
   abbrev from_objects : List TextLine
   from_objects = ended (objects_line c) ∷ from_order
 
-  count_holds : (K : List Pair → List Pair) → AreClosures K → cuts_step K C c.value c.bound from_count ≡ accepted c.value c.bound
+  count_holds : (K : List Pair → List Pair) → AreClosures K → cuts_step K C c.value c.bound 6 from_count ≡ accepted c.value c.bound
   count_holds K closes = expect-line is_cuts 6 (cuts_line c) (map ended from_cuts) (λ numbers rest. cuts_left_step K C c.value c.bound (nat_abs (only_number numbers)) [] 7 rest) count_written refl ∙ cuts_accepted K closes
 
-  bound_holds : (K : List Pair → List Pair) → AreClosures K → bound_step K C c.value from_bound ≡ accepted c.value c.bound
-  bound_holds K closes = expect-line is_bound 5 (bound_line c) from_count (λ numbers rest. cuts_step K C c.value (only_number numbers) rest) bound_written refl ∙ count_holds K closes
+  bound_holds : (K : List Pair → List Pair) → AreClosures K → bound_step K C c.value 5 from_bound ≡ accepted c.value c.bound
+  bound_holds K closes = expect-line is_bound 5 (bound_line c) from_count (λ numbers rest. cuts_step K C c.value (only_number numbers) 6 rest) bound_written refl ∙ count_holds K closes
 
-  value_holds : (K : List Pair → List Pair) → AreClosures K → value_step K C c.order from_value ≡ accepted c.value c.bound
+  value_holds : (K : List Pair → List Pair) → AreClosures K → value_step K C (weight C c.order) 4 from_value ≡ accepted c.value c.bound
   value_holds K closes =
       let w = weight C c.order in
       let test : (int_le c.value w && int_le w c.value) ≡ true = ap (λ (z : ℤ). int_le c.value z && int_le z c.value) (sym holds.value_is) ∙ and_from _ _ (int_le-same c.value) (int_le-same c.value) in
-      expect-line is_value 4 (value_line c) from_bound (λ numbers rest. cond (int_le (only_number numbers) w && int_le w (only_number numbers)) (bound_step K C (only_number numbers) rest) (rejected 4 (reason.Value (only_number numbers) w))) value_written refl
-      ∙ ap (λ (t : Bool). cond t (bound_step K C c.value from_bound) (rejected 4 (reason.Value c.value w))) test
+      expect-line is_value 4 (value_line c) from_bound (λ numbers rest. cond (int_le (only_number numbers) w && int_le w (only_number numbers)) (bound_step K C (only_number numbers) 5 rest) (rejected 4 (reason.Value (only_number numbers) w))) value_written refl
+      ∙ ap (λ (t : Bool). cond t (bound_step K C c.value 5 from_bound) (rejected 4 (reason.Value c.value w))) test
       ∙ bound_holds K closes
 
-  order_holds : (K : List Pair → List Pair) → AreClosures K → order_step K C from_order ≡ accepted c.value c.bound
+  order_holds : (K : List Pair → List Pair) → AreClosures K → order_step K C 3 from_order ≡ accepted c.value c.bound
   order_holds K closes =
-      expect-line is_order_line 3 (order_line c) from_value (λ numbers rest. cond (is_order C.size numbers) (value_step K C (objects_of numbers) rest) (rejected 3 reason.OrderLine)) order_written refl
-      ∙ ap (λ (t : Bool). cond t (value_step K C (objects_of (numbers_of_objects c.order)) from_value) (rejected 3 reason.OrderLine)) (is_order-order C.size c.order holds.order_is)
-      ∙ ap (λ (s : List ℕ). value_step K C s from_value) (objects_of-numbers c.order)
+      expect-line is_order_line 3 (order_line c) from_value (λ numbers rest. cond (is_order C.size numbers) (value_step K C (weight C (objects_of numbers)) 4 rest) (rejected 3 reason.OrderLine)) order_written refl
+      ∙ ap (λ (t : Bool). cond t (value_step K C (weight C (objects_of (numbers_of_objects c.order))) 4 from_value) (rejected 3 reason.OrderLine)) (is_order-order C.size c.order holds.order_is)
+      ∙ ap (λ (s : List ℕ). value_step K C (weight C s) 4 from_value) (objects_of-numbers c.order)
       ∙ value_holds K closes
 
-  objects_holds : (K : List Pair → List Pair) → AreClosures K → objects_step K C from_objects ≡ accepted c.value c.bound
+  objects_holds : (K : List Pair → List Pair) → AreClosures K → objects_step K C 2 from_objects ≡ accepted c.value c.bound
   objects_holds K closes =
-      expect-line is_objects 2 (objects_line c) from_order (λ numbers rest. cond (nat_abs (only_number numbers) == C.size) (order_step K C rest) (rejected 2 reason.Size)) objects_written refl
-      ∙ ap (λ (t : Bool). cond t (order_step K C from_order) (rejected 2 reason.Size)) (eq-eqb (length c.order) C.size size_is)
+      expect-line is_objects 2 (objects_line c) from_order (λ numbers rest. cond (nat_abs (only_number numbers) == C.size) (order_step K C 3 rest) (rejected 2 reason.Size)) objects_written refl
+      ∙ ap (λ (t : Bool). cond t (order_step K C 3 from_order) (rejected 2 reason.Size)) (eq-eqb (length c.order) C.size size_is)
       ∙ order_holds K closes
 
   pub lines_written : AreWritten (certificate_lines c)
@@ -400,6 +384,6 @@ module _ (C : Matrix) (weights : IsWeights C) (c : Certificate) (holds : IsTreeC
   -- the text of a true certificate is accepted, with its value and bound
   pub IsCheckAnswer-certificate_text : length (certificate_text c) ≤ 2 ^ 40 → IsCheckAnswer C (certificate_text c) (accepted c.value c.bound)
   IsCheckAnswer-certificate_text fits K closes =
-      ap (λ (lines : List TextLine). expect is_version 1 lines (λ _ rest. objects_step K C rest)) (text_lines-text (certificate_lines c) lines_written fits)
-      ∙ expect-line is_version 1 version_line from_objects (λ _ rest. objects_step K C rest) version_written refl
+      ap (version_step K C 1) (text_lines-text (certificate_lines c) lines_written fits)
+      ∙ expect-line is_version 1 version_line from_objects (λ _ rest. objects_step K C 2 rest) version_written refl
       ∙ objects_holds K closes

@@ -1,7 +1,7 @@
 -- Nothing is accepted but the text of a certificate that is true.
 use Rattle.std.proofs.Common.{◌≡◌, ◌≢◌, ℕ, ◌+◌, ◌-◌, ◌^◌, ◌<◌, ◌≤◌, zero, suc, Bool, true, false, ◌&&◌, ◌==◌, cond, List, [], ◌∷◌, ◌++◌, length, map, codes, nat_lt, nat_le, get_or, ℤ, pos, negsuc, nat_abs, Option, None, Some, refl, sym, ◌∙◌, ap, subst, arith}
 use Rattle.std.specs.Prelude.{int_lt, int_le, ◌<ℤ◌, All}
-use Rattle.std.specs.List.{list_any, slice_split, join_with_byte}
+use Rattle.std.specs.List.{slice_split, join_with_byte}
 use Rattle.std.proofs.lemmas.Bool.{and_parts, or_parts, false≢true, ltb-true, ltb-false, leb-true, eqb-true, eqb-false}
 use Rattle.std.proofs.lemmas.Int.{ints}
 use Rattle.std.proofs.lemmas.List.{append_assoc, append-nil, length-map, map-append}
@@ -26,9 +26,10 @@ use Rattle.lop_certtext.specs.LeafLine.{LeafTerms, leaf_line, leaf_of, terms_in}
 use Rattle.lop_certtext.specs.Tree.{Tree, leaf, split, split_line, tree_lines, IsTree}
 use Rattle.lop_model.specs.Reversed.{reversed}
 use Rattle.lop_certtext.specs.Certificate.{Certificate, certificate_lines, text_of, IsTreeCertificate, IsCertificateText}
-use Rattle.lop_certtext.specs.Answer.{TextLine, ended_line, unended_line, long_line, long_file, limited, lines_from, text_lines, CheckAnswer, accepted, rejected, with_line, spelled, expect, is_version, is_objects, is_order_line, is_value, is_bound, is_cuts, is_end, only_number, are_objects, is_order, objects_step, order_step, value_step, bound_step, cuts_step, cuts_left_step, is_cut_word, with_cut, cut_step, tree_step, node_step, split_step, leaf_step, leaf_value, leaf_limit, split_of, end_step, tail_step, IsCheckAnswer}
+use Rattle.lop_certtext.specs.Answer.{TextLine, ended_line, unended_line, long_line, long_file, limited, lines_from, text_lines, CheckAnswer, accepted, rejected, with_line, spelled, expect, is_version, is_objects, is_order_line, is_value, is_bound, is_cuts, is_end, only_number, is_order, version_step, objects_step, order_step, value_step, bound_step, cuts_step, cuts_left_step, is_cut_word, with_cut, cut_step, tree_step, node_step, split_step, leaf_step, leaf_value, leaf_limit, split_of, end_step, tail_step, IsCheckAnswer}
 use Rattle.lop_certtext.proofs.Lines.{line_text-line_reading}
 use Rattle.lop_certtext.proofs.CutText.{count_is, line-cut_of}
+use Rattle.lop_certtext.proofs.ObjectNumbers.{IsOrder-is_order}
 use Rattle.lop_certtext.proofs.NodeText.{line-leaf_of, line-split_of}
 use Rattle.lop_certtext.proofs.AcceptedText.{ended, length-text_of, lines_from-more, version_line, objects_line, order_line, value_line, bound_line, cuts_line, end_line}
 
@@ -176,63 +177,6 @@ within-lines_from (p ∷ q ∷ ps) start (l ∷ ls) small e =
     let others : lines_from (start + length p + 1) (q ∷ ps) ≡ map ended ls = cc in
     let same : p ≡ line_text l = limited-ended_is start p (line_text l) first in
     omega (arith, length-text_of l ls, ap length same, within-lines_from (q ∷ ps) (start + length p + 1) ls (limited-ended_within start p (line_text l) first) others)
-
--- ---- an order
-
-cond-true_is : (s t : Bool) → cond s false t ≡ true → (s ≡ false) × (t ≡ true)
-cond-true_is true t e = absurd (false≢true e)
-cond-true_is false t e = (refl, e)
-
-numbers_of_objects-objects_of : (n : ℕ) (taken ns : List ℤ) → are_objects n taken ns ≡ true → numbers_of_objects (objects_of ns) ≡ ns
-numbers_of_objects-objects_of n taken [] e = refl
-numbers_of_objects-objects_of n taken (pos zero ∷ ns) e = absurd (false≢true e)
-numbers_of_objects-objects_of n taken (pos (suc a) ∷ ns) e =
-    let parts = and_parts (int_le (pos 1) (pos (suc a)) && int_le (pos (suc a)) (pos n)) _ e in
-    let rest = cond-true_is (list_any (λ y. nat_abs y == suc a) taken) (are_objects n (pos (suc a) ∷ taken) ns) parts.1 in
-    let same : (suc a - 1) + 1 ≡ suc a = omega arith in
-    ap (λ (x : ℕ). pos x ∷ numbers_of_objects (objects_of ns)) same ∙ ap (λ (l : List ℤ). pos (suc a) ∷ l) (numbers_of_objects-objects_of n (pos (suc a) ∷ taken) ns rest.1)
-numbers_of_objects-objects_of n taken (negsuc a ∷ ns) e = absurd (false≢true e)
-
-record IsFirstObject (n : ℕ) (taken : List ℤ) (a : ℕ) (s : List ℕ) : Type 0 where
-  within : a < n
-  free : list_any (λ y. nat_abs y == a + 1) taken ≡ false
-  others : are_objects n (pos (a + 1) ∷ taken) (numbers_of_objects s) ≡ true
-
-first_object : (n : ℕ) (taken : List ℤ) (a : ℕ) (s : List ℕ) → are_objects n taken (numbers_of_objects (a ∷ s)) ≡ true → IsFirstObject n taken a s
-first_object n taken a s e =
-    let parts = and_parts (int_le (pos 1) (pos (a + 1)) && int_le (pos (a + 1)) (pos n)) _ e in
-    let range = and_parts (int_le (pos 1) (pos (a + 1))) (int_le (pos (a + 1)) (pos n)) parts.0 in
-    let high : a + 1 ≤ n = leb-true (a + 1) n range.1 in
-    let rest = cond-true_is (list_any (λ y. nat_abs y == a + 1) taken) (are_objects n (pos (a + 1) ∷ taken) (numbers_of_objects s)) parts.1 in
-    record { within = omega arith; free = rest.0; others = rest.1 }
-
-objects-below : (n : ℕ) (taken : List ℤ) (s : List ℕ) → are_objects n taken (numbers_of_objects s) ≡ true → (p : ℕ) → p < length s → get_or s p 0 < n
-objects-below n taken [] e p h = absurd (omega arith)
-objects-below n taken (a ∷ s) e zero h = (first_object n taken a s e).within
-objects-below n taken (a ∷ s) e (suc p) h = objects-below n (pos (a + 1) ∷ taken) s (first_object n taken a s e).others p (omega arith)
-
-objects-free : (n : ℕ) (taken : List ℤ) (s : List ℕ) → are_objects n taken (numbers_of_objects s) ≡ true → (p : ℕ) → p < length s → list_any (λ y. nat_abs y == get_or s p 0 + 1) taken ≡ false
-objects-free n taken [] e p h = absurd (omega arith)
-objects-free n taken (a ∷ s) e zero h = (first_object n taken a s e).free
-objects-free n taken (a ∷ s) e (suc p) h =
-    (or_parts (a + 1 == get_or s p 0 + 1) (list_any (λ y. nat_abs y == get_or s p 0 + 1) taken) (objects-free n (pos (a + 1) ∷ taken) s (first_object n taken a s e).others p (omega arith))).1
-
-objects-distinct : (n : ℕ) (taken : List ℤ) (s : List ℕ) → are_objects n taken (numbers_of_objects s) ≡ true → (p q : ℕ) → p < q → q < length s → get_or s p 0 ≢ get_or s q 0
-objects-distinct n taken [] e p q h k = absurd (omega arith)
-objects-distinct n taken (a ∷ s) e p zero h k = absurd (omega arith)
-objects-distinct n taken (a ∷ s) e zero (suc q) h k = λ same.
-    let other = (or_parts (a + 1 == get_or s q 0 + 1) (list_any (λ y. nat_abs y == get_or s q 0 + 1) taken) (objects-free n (pos (a + 1) ∷ taken) s (first_object n taken a s e).others q (omega arith))).0 in
-    eqb-false (a + 1) (get_or s q 0 + 1) other (omega arith)
-objects-distinct n taken (a ∷ s) e (suc p) (suc q) h k = objects-distinct n (pos (a + 1) ∷ taken) s (first_object n taken a s e).others p q (omega arith) (omega arith)
-
-IsOrder-is_order : (n : ℕ) (ns : List ℤ) → is_order n ns ≡ true → IsOrder n (objects_of ns) × (numbers_of_objects (objects_of ns) ≡ ns)
-IsOrder-is_order n ns e =
-    let s = objects_of ns in
-    let parts = and_parts (length ns == n) (are_objects n [] ns) e in
-    let same = numbers_of_objects-objects_of n [] ns parts.1 in
-    let each : are_objects n [] (numbers_of_objects s) ≡ true = ap (are_objects n []) same ∙ parts.1 in
-    let long : length s ≡ n = length-map ns (λ m. nat_abs m - 1) ∙ eqb-true (length ns) n parts.0 in
-    (record { complete = long; below = λ p h. objects-below n [] s each p (omega arith); distinct = λ p q h k. objects-distinct n [] s each p q h (omega arith) }, same)
 
 -- ---- the walk
 
@@ -447,7 +391,7 @@ module _ (K : List Pair → List Pair) (closes : AreClosures K) (C : Matrix) (v 
     value_is : value ≡ v
     bound_is : bound ≡ b
 
-  cuts_read : (value bound : ℤ) (lines : List TextLine) → cuts_step K C value bound lines ≡ accepted v b → FromCuts value bound lines
+  cuts_read : (value bound : ℤ) (lines : List TextLine) → cuts_step K C value bound 6 lines ≡ accepted v b → FromCuts value bound lines
   cuts_read value bound lines e =
       let x = expected v b is_cuts 6 lines (λ numbers rest. cuts_left_step K C value bound (nat_abs (only_number numbers)) [] 7 rest) e in
       with_rest x (cuts_left_read K closes C value bound v b (nat_abs (only_number x.line.numbers)) [] 7 x.rest x.follows)
@@ -491,12 +435,12 @@ module _ (K : List Pair → List Pair) (closes : AreClosures K) (C : Matrix) (v 
     value_is : value ≡ v
     bound_signed : is_signed b ≡ true
 
-  bound_read : (value : ℤ) (lines : List TextLine) → bound_step K C value lines ≡ accepted v b → FromBound value lines
+  bound_read : (value : ℤ) (lines : List TextLine) → bound_step K C value 5 lines ≡ accepted v b → FromBound value lines
   bound_read value lines e =
-      let x = expected v b is_bound 5 lines (λ numbers rest. cuts_step K C value (only_number numbers) rest) e in
+      let x = expected v b is_bound 5 lines (λ numbers rest. cuts_step K C value (only_number numbers) 6 rest) e in
       with_rest x (cuts_read value (only_number x.line.numbers) x.rest x.follows)
     where
-      with_rest : (x : Expected is_bound lines (λ numbers rest. cuts_step K C value (only_number numbers) rest) (accepted v b)) → FromCuts value (only_number x.line.numbers) x.rest → FromBound value lines
+      with_rest : (x : Expected is_bound lines (λ numbers rest. cuts_step K C value (only_number numbers) 6 rest) (accepted v b)) → FromCuts value (only_number x.line.numbers) x.rest → FromBound value lines
       with_rest x last =
           let word = due-bound x.line.word x.due in
           let row = row-bound x.line.numbers (row_at x.line.numbers x.line.word Bound word x.row) in
@@ -528,14 +472,14 @@ module _ (K : List Pair → List Pair) (closes : AreClosures K) (C : Matrix) (v 
     value_signed : is_signed v ≡ true
     bound_signed : is_signed b ≡ true
 
-  value_read : (s : List ℕ) (lines : List TextLine) → value_step K C s lines ≡ accepted v b → FromValue s lines
+  value_read : (s : List ℕ) (lines : List TextLine) → value_step K C (weight C s) 4 lines ≡ accepted v b → FromValue s lines
   value_read s lines e =
-      let x = expected v b is_value 4 lines (λ numbers rest. cond (int_le (only_number numbers) (weight C s) && int_le (weight C s) (only_number numbers)) (bound_step K C (only_number numbers) rest) (rejected 4 (reason.Value (only_number numbers) (weight C s)))) e in
+      let x = expected v b is_value 4 lines (λ numbers rest. cond (int_le (only_number numbers) (weight C s) && int_le (weight C s) (only_number numbers)) (bound_step K C (only_number numbers) 5 rest) (rejected 4 (reason.Value (only_number numbers) (weight C s)))) e in
       let value = only_number x.line.numbers in
-      let t = passed v b (int_le value (weight C s) && int_le (weight C s) value) (bound_step K C value x.rest) 4 (reason.Value value (weight C s)) x.follows in
+      let t = passed v b (int_le value (weight C s) && int_le (weight C s) value) (bound_step K C value 5 x.rest) 4 (reason.Value value (weight C s)) x.follows in
       with_rest x t.0 (bound_read value x.rest t.1)
     where
-      with_rest : (x : Expected is_value lines (λ numbers rest. cond (int_le (only_number numbers) (weight C s) && int_le (weight C s) (only_number numbers)) (bound_step K C (only_number numbers) rest) (rejected 4 (reason.Value (only_number numbers) (weight C s)))) (accepted v b)) → (int_le (only_number x.line.numbers) (weight C s) && int_le (weight C s) (only_number x.line.numbers)) ≡ true → FromBound (only_number x.line.numbers) x.rest → FromValue s lines
+      with_rest : (x : Expected is_value lines (λ numbers rest. cond (int_le (only_number numbers) (weight C s) && int_le (weight C s) (only_number numbers)) (bound_step K C (only_number numbers) 5 rest) (rejected 4 (reason.Value (only_number numbers) (weight C s)))) (accepted v b)) → (int_le (only_number x.line.numbers) (weight C s) && int_le (weight C s) (only_number x.line.numbers)) ≡ true → FromBound (only_number x.line.numbers) x.rest → FromValue s lines
       with_rest x t last =
           let word = due-value x.line.word x.due in
           let row = row-value x.line.numbers (row_at x.line.numbers x.line.word Value word x.row) in
@@ -562,13 +506,13 @@ module _ (K : List Pair → List Pair) (closes : AreClosures K) (C : Matrix) (v 
     bound_is : certificate.bound ≡ b
     lines_are : lines ≡ map ended (order_line certificate ∷ value_line certificate ∷ bound_line certificate ∷ cuts_line certificate ∷ map cut_line certificate.cuts ++ (tree_lines certificate.tree ++ end_line ∷ []))
 
-  order_read : (lines : List TextLine) → order_step K C lines ≡ accepted v b → FromOrder lines
+  order_read : (lines : List TextLine) → order_step K C 3 lines ≡ accepted v b → FromOrder lines
   order_read lines e =
-      let x = expected v b is_order_line 3 lines (λ numbers rest. cond (is_order C.size numbers) (value_step K C (objects_of numbers) rest) (rejected 3 reason.OrderLine)) e in
-      let t = passed v b (is_order C.size x.line.numbers) (value_step K C (objects_of x.line.numbers) x.rest) 3 reason.OrderLine x.follows in
+      let x = expected v b is_order_line 3 lines (λ numbers rest. cond (is_order C.size numbers) (value_step K C (weight C (objects_of numbers)) 4 rest) (rejected 3 reason.OrderLine)) e in
+      let t = passed v b (is_order C.size x.line.numbers) (value_step K C (weight C (objects_of x.line.numbers)) 4 x.rest) 3 reason.OrderLine x.follows in
       with_rest x (IsOrder-is_order C.size x.line.numbers t.0) (value_read (objects_of x.line.numbers) x.rest t.1)
     where
-      with_rest : (x : Expected is_order_line lines (λ numbers rest. cond (is_order C.size numbers) (value_step K C (objects_of numbers) rest) (rejected 3 reason.OrderLine)) (accepted v b)) → IsOrder C.size (objects_of x.line.numbers) × (numbers_of_objects (objects_of x.line.numbers) ≡ x.line.numbers) → FromValue (objects_of x.line.numbers) x.rest → FromOrder lines
+      with_rest : (x : Expected is_order_line lines (λ numbers rest. cond (is_order C.size numbers) (value_step K C (weight C (objects_of numbers)) 4 rest) (rejected 3 reason.OrderLine)) (accepted v b)) → IsOrder C.size (objects_of x.line.numbers) × (numbers_of_objects (objects_of x.line.numbers) ≡ x.line.numbers) → FromValue (objects_of x.line.numbers) x.rest → FromOrder lines
       with_rest x order last =
           let s = objects_of x.line.numbers in
           let c : Certificate = record { order = s; value = v; bound = b; cuts = last.cuts; tree = last.tree } in
@@ -598,13 +542,13 @@ module _ (K : List Pair → List Pair) (closes : AreClosures K) (C : Matrix) (v 
     bound_is : certificate.bound ≡ b
     lines_are : lines ≡ map ended (objects_line certificate ∷ order_line certificate ∷ value_line certificate ∷ bound_line certificate ∷ cuts_line certificate ∷ map cut_line certificate.cuts ++ (tree_lines certificate.tree ++ end_line ∷ []))
 
-  objects_read : (lines : List TextLine) → objects_step K C lines ≡ accepted v b → FromObjects lines
+  objects_read : (lines : List TextLine) → objects_step K C 2 lines ≡ accepted v b → FromObjects lines
   objects_read lines e =
-      let x = expected v b is_objects 2 lines (λ numbers rest. cond (nat_abs (only_number numbers) == C.size) (order_step K C rest) (rejected 2 reason.Size)) e in
-      let t = passed v b (nat_abs (only_number x.line.numbers) == C.size) (order_step K C x.rest) 2 reason.Size x.follows in
+      let x = expected v b is_objects 2 lines (λ numbers rest. cond (nat_abs (only_number numbers) == C.size) (order_step K C 3 rest) (rejected 2 reason.Size)) e in
+      let t = passed v b (nat_abs (only_number x.line.numbers) == C.size) (order_step K C 3 x.rest) 2 reason.Size x.follows in
       with_rest x (eqb-true (nat_abs (only_number x.line.numbers)) C.size t.0) (order_read x.rest t.1)
     where
-      with_rest : (x : Expected is_objects lines (λ numbers rest. cond (nat_abs (only_number numbers) == C.size) (order_step K C rest) (rejected 2 reason.Size)) (accepted v b)) → nat_abs (only_number x.line.numbers) ≡ C.size → FromOrder x.rest → FromObjects lines
+      with_rest : (x : Expected is_objects lines (λ numbers rest. cond (nat_abs (only_number numbers) == C.size) (order_step K C 3 rest) (rejected 2 reason.Size)) (accepted v b)) → nat_abs (only_number x.line.numbers) ≡ C.size → FromOrder x.rest → FromObjects lines
       with_rest x size last =
           let c = last.certificate in
           let word = due-objects x.line.word x.due in
@@ -618,24 +562,42 @@ module _ (K : List Pair → List Pair) (closes : AreClosures K) (C : Matrix) (v 
             lines_are = line_then lines x.rest (map ended (order_line c ∷ value_line c ∷ bound_line c ∷ cuts_line c ∷ map cut_line c.cuts ++ (tree_lines c.tree ++ end_line ∷ []))) x.line (objects_line c) x.lines_are (line_is x.line Objects (pos (length c.order) ∷ []) word (row.0 ∙ ap (λ (n : ℤ). n ∷ []) number)) last.lines_are;
           }
 
--- nothing else is accepted
-pub IsCertificateText-IsCheckAnswer : (C : Matrix) (bytes : List ℕ) (v b : ℤ) → IsCheckAnswer C bytes (accepted v b) → IsCertificateText C bytes v b
-IsCertificateText-IsCheckAnswer C bytes v b is =
-    let x = expected v b is_version 1 (text_lines bytes) (λ _ rest. objects_step closed C rest) (is closed AreClosures-closed) in
+-- lines that are accepted: those of a true certificate
+pub record AreAccepted (C : Matrix) (lines : List TextLine) (v b : ℤ) : Type 0 where
+  pub certificate : Certificate
+  pub holds : IsTreeCertificate C certificate
+  pub value_is : certificate.value ≡ v
+  pub bound_is : certificate.bound ≡ b
+  pub lines_are : lines ≡ map ended (certificate_lines certificate)
+
+pub accepted_lines : (C : Matrix) (lines : List TextLine) (v b : ℤ) → version_step closed C 1 lines ≡ accepted v b → AreAccepted C lines v b
+accepted_lines C lines v b is =
+    let x = expected v b is_version 1 lines (λ _ rest. objects_step closed C 2 rest) is in
     with_rest x (objects_read closed AreClosures-closed C v b x.rest x.follows)
   where
-    with_rest : (x : Expected is_version (text_lines bytes) (λ _ rest. objects_step closed C rest) (accepted v b)) → FromObjects closed AreClosures-closed C v b x.rest → IsCertificateText C bytes v b
+    with_rest : (x : Expected is_version lines (λ _ rest. objects_step closed C 2 rest) (accepted v b)) → FromObjects closed AreClosures-closed C v b x.rest → AreAccepted C lines v b
     with_rest x last =
         let c = last.certificate in
         let word = due-version x.line.word x.due in
         let line = line_is x.line Version (pos 1 ∷ []) word (row-version x.line.numbers (row_at x.line.numbers x.line.word Version word x.row)) in
-        let lines : text_lines bytes ≡ map ended (certificate_lines c) = line_then (text_lines bytes) x.rest (map ended (objects_line c ∷ order_line c ∷ value_line c ∷ bound_line c ∷ cuts_line c ∷ map cut_line c.cuts ++ (tree_lines c.tree ++ end_line ∷ []))) x.line version_line x.lines_are line last.lines_are in
-        let text = text-text_lines bytes (certificate_lines c) lines in
         record {
           certificate = c;
           holds = last.holds;
-          text = text;
           value_is = last.value_is;
           bound_is = last.bound_is;
-          fits = omega (arith, ap length text, within-lines_from (slice_split (λ k. k == 10) bytes) 0 (certificate_lines c) (omega arith) lines);
+          lines_are = line_then lines x.rest (map ended (objects_line c ∷ order_line c ∷ value_line c ∷ bound_line c ∷ cuts_line c ∷ map cut_line c.cuts ++ (tree_lines c.tree ++ end_line ∷ []))) x.line version_line x.lines_are line last.lines_are;
         }
+
+-- nothing else is accepted
+pub IsCertificateText-IsCheckAnswer : (C : Matrix) (bytes : List ℕ) (v b : ℤ) → IsCheckAnswer C bytes (accepted v b) → IsCertificateText C bytes v b
+IsCertificateText-IsCheckAnswer C bytes v b is =
+    let x = accepted_lines C (text_lines bytes) v b (is closed AreClosures-closed) in
+    let text = text-text_lines bytes (certificate_lines x.certificate) x.lines_are in
+    record {
+      certificate = x.certificate;
+      holds = x.holds;
+      text = text;
+      value_is = x.value_is;
+      bound_is = x.bound_is;
+      fits = omega (arith, ap length text, within-lines_from (slice_split (λ k. k == 10) bytes) 0 (certificate_lines x.certificate) (omega arith) x.lines_are);
+    }

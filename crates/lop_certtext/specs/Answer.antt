@@ -1,11 +1,12 @@
 -- What the checker answers: a walk over the lines, in which the first test that fails gives line and reason.
 use Rattle.std.specs.Prelude.{◌≡◌, ℕ, zero, suc, ◌+◌, ◌^◌, Bool, true, false, not, ◌&&◌, ◌==◌, nat_lt, nat_le, int_lt, int_le, List, [], ◌∷◌, ◌++◌, length, ℤ, pos, nat_abs, ◌-◌, ◌+ℤ◌, ◌*ℤ◌, Option, None, Some, if◌then◌else◌}
-use Rattle.std.specs.List.{list_any, slice_split}
+use Rattle.std.specs.List.{slice_split}
 use Rattle.lop_model.specs.declared.pair.Pair.{Pair}
 use Rattle.lop_model.specs.Matrix.{Matrix, weight}
 use Rattle.lop_model.specs.Fixings.{has_pair}
 use Rattle.lop_model.specs.Closing.{AreClosures}
 use Rattle.lop_cuts.specs.declared.kind.CutKind.{CutKind}
+use Rattle.lop_cuts.specs.CutTests.{are_different}
 use Rattle.lop_cuts.specs.Lagrangian.{lagrangian_value}
 use Rattle.lop_certtext.specs.declared.word.CertWord.{CertWord}
 use Rattle.lop_certtext.specs.declared.word.CertWord.TheVariants.{Version, Objects, OrderLine, Value, Bound, Cuts, Dicycle, Fence, Ladder, SplitLine, Leaf, End}
@@ -98,15 +99,9 @@ abbrev pub only_number : List ℤ → ℤ
 only_number [] = pos 0
 only_number (n ∷ ns) = n
 
--- each number is one of 1 to n, and none stands before it
-abbrev pub are_objects : ℕ → List ℤ → List ℤ → Bool
-are_objects n taken [] = true
-are_objects n taken (x ∷ xs) =
-    (int_le (pos 1) x && int_le x (pos n)) && (if list_any (λ y. nat_abs y == nat_abs x) taken then false else are_objects n (x ∷ taken) xs)
-
 -- the numbers of a line are an order of 1 to n
 abbrev pub is_order : ℕ → List ℤ → Bool
-is_order n ns = length ns == n && are_objects n [] ns
+is_order n ns = length ns == n && name_objects n ns && are_different (objects_of ns)
 
 -- The steps, from the last line to the first. Lines are counted from 1.
 
@@ -192,28 +187,37 @@ cuts_left_step K C value bound zero cuts number lines = tree_step K C cuts value
 cuts_left_step K C value bound (suc k) cuts number lines =
     spelled number lines (λ line rest. cut_step C.size number line.word line.numbers (λ cut. cuts_left_step K C value bound k (cuts ++ cut ∷ []) (number + 1) rest))
 
-abbrev pub cuts_step : (List Pair → List Pair) → Matrix → ℤ → ℤ → List TextLine → CheckAnswer
-cuts_step K C value bound lines = expect is_cuts 6 lines (λ numbers rest. cuts_left_step K C value bound (nat_abs (only_number numbers)) [] 7 rest)
+-- how many cuts there are
+abbrev pub cuts_step : (List Pair → List Pair) → Matrix → ℤ → ℤ → ℕ → List TextLine → CheckAnswer
+cuts_step K C value bound number lines = expect is_cuts number lines (λ numbers rest. cuts_left_step K C value bound (nat_abs (only_number numbers)) [] (number + 1) rest)
 
-abbrev pub bound_step : (List Pair → List Pair) → Matrix → ℤ → List TextLine → CheckAnswer
-bound_step K C value lines = expect is_bound 5 lines (λ numbers rest. cuts_step K C value (only_number numbers) rest)
+-- any bound may be stated
+abbrev pub bound_step : (List Pair → List Pair) → Matrix → ℤ → ℕ → List TextLine → CheckAnswer
+bound_step K C value number lines = expect is_bound number lines (λ numbers rest. cuts_step K C value (only_number numbers) (number + 1) rest)
 
-abbrev pub value_step : (List Pair → List Pair) → Matrix → List ℕ → List TextLine → CheckAnswer
-value_step K C s lines = expect is_value 4 lines
-    (λ numbers rest. if int_le (only_number numbers) (weight C s) && int_le (weight C s) (only_number numbers) then bound_step K C (only_number numbers) rest
-    else rejected 4 (reason.Value (only_number numbers) (weight C s)))
+-- the value is what the order was found to weigh
+abbrev pub value_step : (List Pair → List Pair) → Matrix → ℤ → ℕ → List TextLine → CheckAnswer
+value_step K C found number lines = expect is_value number lines
+    (λ numbers rest. if int_le (only_number numbers) found && int_le found (only_number numbers) then bound_step K C (only_number numbers) (number + 1) rest
+    else rejected number (reason.Value (only_number numbers) found))
 
-abbrev pub order_step : (List Pair → List Pair) → Matrix → List TextLine → CheckAnswer
-order_step K C lines = expect is_order_line 3 lines
-    (λ numbers rest. if is_order C.size numbers then value_step K C (objects_of numbers) rest else rejected 3 reason.OrderLine)
+-- an order of the objects
+abbrev pub order_step : (List Pair → List Pair) → Matrix → ℕ → List TextLine → CheckAnswer
+order_step K C number lines = expect is_order_line number lines
+    (λ numbers rest. if is_order C.size numbers then value_step K C (weight C (objects_of numbers)) (number + 1) rest else rejected number reason.OrderLine)
 
-abbrev pub objects_step : (List Pair → List Pair) → Matrix → List TextLine → CheckAnswer
-objects_step K C lines = expect is_objects 2 lines
-    (λ numbers rest. if nat_abs (only_number numbers) == C.size then order_step K C rest else rejected 2 reason.Size)
+-- as many objects as the weights have
+abbrev pub objects_step : (List Pair → List Pair) → Matrix → ℕ → List TextLine → CheckAnswer
+objects_step K C number lines = expect is_objects number lines
+    (λ numbers rest. if nat_abs (only_number numbers) == C.size then order_step K C (number + 1) rest else rejected number reason.Size)
+
+-- the first line
+abbrev pub version_step : (List Pair → List Pair) → Matrix → ℕ → List TextLine → CheckAnswer
+version_step K C number lines = expect is_version number lines (λ _ rest. objects_step K C (number + 1) rest)
 
 -- what the walk answers for the weights C and a text, where K gives each path its closure
 abbrev pub check_answer : (List Pair → List Pair) → Matrix → List ℕ → CheckAnswer
-check_answer K C bytes = expect is_version 1 (text_lines bytes) (λ _ rest. objects_step K C rest)
+check_answer K C bytes = version_step K C 1 (text_lines bytes)
 
 -- this is what the checker answers for the weights C and a text: every function that gives each path its closure leads to it
 abbrev pub IsCheckAnswer : Matrix → List ℕ → CheckAnswer → Type 0

@@ -1,17 +1,13 @@
 -- The terms of a line, and what they charge.
-use Rattle.std.proofs.Common.{◌≡◌, ℕ, zero, suc, ◌+◌, ◌-◌, ◌*◌, ◌^◌, ◌<◌, ◌≤◌, Bool, true, false, cond, eqb, ◌&&◌, List, [], ◌∷◌, length, take, get_or, set, nat_abs, refl, sym, ◌∙◌, ap, subst, ℤ, pos, neg_ℤ, ◌+ℤ◌, ◌*ℤ◌, ◌≤ℤ◌, arith}
+use Rattle.std.proofs.Common.{◌≡◌, ℕ, zero, suc, ◌+◌, ◌-◌, ◌*◌, ◌^◌, ◌<◌, ◌≤◌, Bool, true, false, List, [], ◌∷◌, length, take, get_or, nat_abs, refl, sym, ◌∙◌, ap, subst, ℤ, pos, arith}
 use Rattle.std.specs.List.{All, IsDistinct}
-use Rattle.std.proofs.Math.IntN.{suc_ℤ-*ℤ, zero-*ℤ}
 use Rattle.std.proofs.Math.Nat.{mul-le-mul_left}
-use Rattle.std.proofs.lemmas.Int.{ints}
-use Rattle.std.proofs.lemmas.Bool.Decides.{nat_tests}
 use Rattle.std.proofs.lemmas.List.{get_or-map, length-map}
 use Rattle.std.proofs.lemmas.List.Elements.{All-get_or}
-use Rattle.std.proofs.lemmas.List.Sums.{sum_by_more}
 use Rattle.lop_model.specs.declared.pair.Pair.{Pair}
 use Rattle.lop_cuts.specs.declared.kind.CutKind.{CutKind}
 use Rattle.lop_cuts.specs.declared.kind.CutKind.TheVariants as kind
-use Rattle.lop_cuts.specs.Arcs.{arc, same_arc}
+use Rattle.lop_cuts.specs.Arcs.{same_arc}
 use Rattle.lop_cuts.specs.Kind.{IsCut, right_side_of, arcs_of}
 use Rattle.lop_cuts.specs.Lagrangian.{Term, charge, right_sides}
 use Rattle.lop_cuts.proofs.ArcLemmas.{times, times-distinct, has_arc}

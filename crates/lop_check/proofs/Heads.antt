@@ -16,9 +16,8 @@ use Rattle.lop_desk.specs.declared.line.LineStop.TheVariants as stop
 use Rattle.lop_desk.proofs.Worlds.{bytes_from_moved}
 use Rattle.lop_certtext.specs.Answer.{TextLine, ended_line, unended_line, long_line, long_file, limited, lines_from, CheckAnswer}
 use Rattle.lop_check.specs.declared.verdict.Verdict.{Verdict}
-use Rattle.lop_check.specs.declared.verdict.Verdict.TheVariants as verdict
 use Rattle.lop_check.specs.Verdict.{Says}
-use Rattle.lop_check.specs.Walk.{line_start, lines_to_come, Answers, Advances}
+use Rattle.lop_check.specs.Walk.{line_start, lines_to_come, Answers}
 
 -- ---- bytes cut at LFs
 
@@ -208,48 +207,58 @@ module _ (w : World) (before now : LineState) (placed : length before.pending �
 
 -- ---- what each answer of the reader says of the next step
 
-pub head_ended : (old new : Option World) (before now : LineState) (size : ℕ) → IsLine old before now (line.Text size true) → HoldsLine now (line.Text size true)
+-- where a world is told, no more bytes wait than were read
+abbrev pub Waits : Option World → LineState → Type 0
+Waits told r = IfSome told (λ _. length r.pending ≤ r.count)
+
+pub head_ended : (old new : Option World) (before now : LineState) (size : ℕ) → Waits old before → IsLine old before now (line.Text size true) → HoldsLine now (line.Text size true)
     → new ≡ moved_by (now.count - before.count) old → before.count ≤ now.count → now.count ≤ 2 ^ 40
     → (step : List TextLine → CheckAnswer) (v : Verdict) → Answers new now (λ rest. step (ended_line now.line ∷ rest)) v → Answers old before step v
-head_ended None new before now size is holds moved grows limit step v later = tt
-head_ended (Some w) new before now size is holds moved grows limit step v later = λ placed.
+head_ended None new before now size placed is holds moved grows limit step v later =
+    let there : Answers None now (λ rest. step (ended_line now.line ∷ rest)) v = subst (λ t. Answers t now (λ rest. step (ended_line now.line ∷ rest)) v) moved later in
+    (ended_line now.line ∷ there.0, there.1)
+head_ended (Some w) new before now size placed is holds moved grows limit step v later =
     let first = ended_first w before now placed grows limit size is holds.0 holds.1 in
     let there = subst (λ t. Answers t now (λ rest. step (ended_line now.line ∷ rest)) v) moved later in
-    subst (λ l. Says (step l) v) (sym first.0) (there first.1)
+    subst (λ l. Says (step l) v) (sym first.0) there
 
 -- a line that was read moves the reader on
-pub head_advances : (old : Option World) (before now : LineState) (size : ℕ) → IsLine old before now (line.Text size true) → HoldsLine now (line.Text size true) → before.count ≤ now.count → now.count ≤ 2 ^ 40 → IfSome old (λ _. Advances before now)
-head_advances None before now size is holds grows limit = tt
-head_advances (Some w) before now size is holds grows limit = λ placed.
+pub head_advances : (old : Option World) (before now : LineState) (size : ℕ) → Waits old before → IsLine old before now (line.Text size true) → HoldsLine now (line.Text size true) → before.count ≤ now.count → now.count ≤ 2 ^ 40
+    → IfSome old (λ _. (length now.pending ≤ now.count) × (line_start before < line_start now))
+head_advances None before now size placed is holds grows limit = tt
+head_advances (Some w) before now size placed is holds grows limit =
     (placed_after w before now placed grows limit size is holds.0 holds.1, omega (arith, start_after w before now placed grows limit size is holds.0 holds.1))
 
-pub head_unended : (old : Option World) (before now : LineState) (size : ℕ) → IsLine old before now (line.Text size false) → HoldsLine now (line.Text size false)
+pub head_unended : (old : Option World) (before now : LineState) (size : ℕ) → Waits old before → IsLine old before now (line.Text size false) → HoldsLine now (line.Text size false)
     → before.count ≤ now.count → now.count ≤ 2 ^ 40
     → (step : List TextLine → CheckAnswer) (v : Verdict) → Says (step (unended_line now.line ∷ [])) v → Answers old before step v
-head_unended None before now size is holds grows limit step v at = tt
-head_unended (Some w) before now size is holds grows limit step v at = λ placed.
+head_unended None before now size placed is holds grows limit step v at = (unended_line now.line ∷ [], at)
+head_unended (Some w) before now size placed is holds grows limit step v at =
     subst (λ l. Says (step l) v) (sym (unended_first w before now placed grows limit size is holds.0 holds.1)) at
 
 pub head_end : (old : Option World) (before now : LineState) → IsLine old before now line.End → (step : List TextLine → CheckAnswer) (v : Verdict) → Says (step []) v → Answers old before step v
-head_end None before now is step v at = tt
-head_end (Some w) before now is step v at = λ placed.
+head_end None before now is step v at = ([], at)
+head_end (Some w) before now is step v at =
     subst (λ l. Says (step (lines_from (line_start before) (slice_split is_lf l))) v) (sym is.none) at
 
-pub head_long_line : (old : Option World) (before : LineState) (a b : ℕ) → LineCause old before a b stop.LineTooLong → before.count ≤ 2 ^ 40
+-- at the end nothing waits
+pub end_advances : (old : Option World) (before now : LineState) → IsLine old before now line.End → before.count ≤ now.count → IfSome old (λ _. (length now.pending ≤ now.count) × (line_start before ≤ line_start now))
+end_advances None before now is grows = tt
+end_advances (Some w) before now is grows =
+    let first : length before.pending ≡ 0 = omega (arith, length-append before.pending (unread w), ap length is.none) in
+    let last : length now.pending ≡ 0 = omega (arith, length-append now.pending (drop (now.count - before.count) (unread w)), ap length is.after) in
+    (omega arith, omega arith)
+
+pub head_long_line : (old : Option World) (before : LineState) (a b : ℕ) → Waits old before → LineCause old before a b stop.LineTooLong → before.count ≤ 2 ^ 40
     → (step : List TextLine → CheckAnswer) (v : Verdict) → ((rest : List TextLine) → Says (step (long_line ∷ rest)) v) → Answers old before step v
-head_long_line None before a b is limit step v at = tt
-head_long_line (Some w) before a b is limit step v at = λ placed.
+head_long_line None before a b placed is limit step v at = (long_line ∷ [], at [])
+head_long_line (Some w) before a b placed is limit step v at =
     let first = long_first (line_start before) (to_come w before) is.no_lf is.there (omega (arith, is.within, placed, limit)) in
     subst (λ l. Says (step l) v) (sym first.1) (at first.0)
 
-pub head_long_file : (old : Option World) (before : LineState) (a b : ℕ) → LineCause old before a b stop.TooLong → before.count ≤ 2 ^ 40
+pub head_long_file : (old : Option World) (before : LineState) (a b : ℕ) → Waits old before → LineCause old before a b stop.TooLong → before.count ≤ 2 ^ 40
     → (step : List TextLine → CheckAnswer) (v : Verdict) → ((rest : List TextLine) → Says (step (long_file ∷ rest)) v) → Answers old before step v
-head_long_file None before a b is limit step v at = tt
-head_long_file (Some w) before a b is limit step v at = λ placed.
+head_long_file None before a b placed is limit step v at = (long_file ∷ [], at [])
+head_long_file (Some w) before a b placed is limit step v at =
     let first = far_first (line_start before) (allowance before) (to_come w before) (omega (arith, placed, limit)) is.no_lf is.there is.room is.at_room in
     subst (λ l. Says (step l) v) (sym first.1) (at first.0)
-
--- a read that failed says nothing of the text
-pub failed_says_nothing : (old : Option World) (before : LineState) (step : List TextLine → CheckAnswer) → Answers old before step verdict.Failed
-failed_says_nothing None before step = tt
-failed_says_nothing (Some w) before step = λ placed. tt

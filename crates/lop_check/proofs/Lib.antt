@@ -1,5 +1,6 @@
 pub mod Heads
 pub mod Walk
+pub mod Steps
 pub mod Objects
 pub mod DepthLemmas
 pub mod TrailLemmas
@@ -8,6 +9,6 @@ pub mod CutLines
 pub mod Charging
 pub mod Reduced
 pub mod NodeLemmas
-pub mod TreeWalk
 pub mod Results
+pub mod TreeWalk
 pub mod Exact

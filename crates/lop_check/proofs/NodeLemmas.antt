@@ -1,22 +1,17 @@
 -- What a line of the tree does to the pending paths.
-use Rattle.std.proofs.Common.{◌≡◌, ℕ, suc, ◌+◌, ◌*◌, ◌<◌, ◌≤◌, Bool, true, false, cond, ◌&&◌, List, [], ◌∷◌, ◌++◌, append-nil, length, take, drop, drop-cons, get_or, nat_abs, ℤ, pos, ◌≤ℤ◌, ◌<ℤ◌, Option, None, Some, inl, inr, refl, sym, ◌∙◌, ap, arith}
-use Rattle.std.specs.Prelude.{All, int_lt, nat_lt, nat_le}
+use Rattle.std.proofs.Common.{◌≡◌, ℕ, suc, ◌+◌, ◌*◌, ◌<◌, ◌≤◌, Bool, true, false, cond, ◌&&◌, List, [], ◌∷◌, ◌++◌, length, drop, drop-cons, get_or, nat_abs, ℤ, pos, ◌≤ℤ◌, ◌<ℤ◌, Option, None, Some, refl, sym, ◌∙◌, ap, arith}
+use Rattle.std.specs.Prelude.{int_lt, nat_lt, nat_le}
 use Rattle.std.proofs.lemmas.Int.{ints}
-use Rattle.std.proofs.lemmas.List.{drop_all, take_all}
+use Rattle.std.proofs.lemmas.List.{drop_all}
 use Rattle.lop_model.specs.declared.pair.Pair.{Pair}
-use Rattle.lop_model.specs.Matrix.{Matrix, weight}
-use Rattle.lop_model.specs.Fixings.{IsClosure, IsUndecided}
+use Rattle.lop_model.specs.Matrix.{Matrix}
 use Rattle.lop_cuts.specs.declared.kind.CutKind.{CutKind}
-use Rattle.lop_cuts.specs.Kind.{IsCut}
 use Rattle.lop_certtext.specs.declared.word.CertWord.TheVariants.{SplitLine}
-use Rattle.lop_cuts.proofs.CertifiedPaths.{CertifiesUnder-one}
 use Rattle.lop_model.specs.Reversed.{reversed}
-use Rattle.lop_certtext.specs.LeafLine.{LeafTerms, are_rising, terms_of, terms_in, is_leaf_row, leaf_of}
-use Rattle.lop_certtext.specs.Answer.{split_of, split_step, leaf_value, leaf_limit}
-use Rattle.lop_certtext.proofs.PathLemmas.{extends_more}
-use Rattle.lop_certtext.proofs.TreeBounds.{one_way, certified_bounds}
-use Rattle.lop_check.specs.Standing.{Standing, IsCovered}
-use Rattle.lop_check.specs.Nodes.{follows, StaysCovered, Passes}
+use Rattle.lop_certtext.specs.LeafLine.{LeafTerms, are_rising, terms_of, is_leaf_row, leaf_of}
+use Rattle.lop_certtext.specs.Answer.{split_of, split_step}
+use Rattle.lop_check.specs.TreePlace.{TreePlace}
+use Rattle.lop_check.specs.Nodes.{follows, Passes}
 
 -- ---- terms in turn
 
@@ -38,29 +33,10 @@ none_rising ns count last k l = ap (λ (xs : List ℤ). are_rising last count (t
 
 -- ---- splits
 
-pub covered_split : (C : Matrix) (b : ℤ) (path : List Pair) (others : List (List Pair)) (p : Pair) → IsUndecided C.size path p.before p.after → StaysCovered C b (path ∷ others) ((path ++ p ∷ []) ∷ (path ++ reversed p ∷ []) ∷ others)
-covered_split C b path others p free s o h = elim h [
-  | inl x ↦ elim (one_way C.size s p.before p.after o free.first free.second free.differ) [
-    | inl before ↦ inl (extends_more s path p x before)
-    | inr after ↦ inr (inl (extends_more s path (reversed p) x after))
-  ]
-  | inr rest ↦ inr (inr rest)
-]
-
-pub split_passes : (C : Matrix) (cuts : List CutKind) (b : ℤ) (G : List Pair) (at : Standing) (number : ℕ) (ns : List ℤ) (p : Pair) → split_of C.size G ns ≡ Some p → Passes C cuts b G at number SplitLine ns ((at.path ++ p ∷ []) ∷ (at.path ++ reversed p ∷ []) ∷ at.others)
+pub split_passes : (C : Matrix) (cuts : List CutKind) (b : ℤ) (G : List Pair) (at : TreePlace) (number : ℕ) (ns : List ℤ) (p : Pair) → split_of C.size G ns ≡ Some p → Passes C cuts b G at number SplitLine ns ((at.path ++ p ∷ []) ∷ (at.path ++ reversed p ∷ []) ∷ at.others)
 split_passes C cuts b G at number ns p e next = ap (λ (o : Option Pair). split_step at.path at.others number o next) e
 
 -- ---- leaves
-
-covered_low : (C : Matrix) (b : ℤ) (paths : List (List Pair)) (s : List ℕ) → weight C s ≤ℤ b → IsCovered C b paths s
-covered_low C b [] s w = w
-covered_low C b (p ∷ ps) s w = inr (covered_low C b ps s w)
-
-pub covered_leaf : (C : Matrix) (cuts : List CutKind) (b : ℤ) (path G : List Pair) (others : List (List Pair)) (l : LeafTerms) → All IsCut cuts → are_rising 0 (length cuts) l.terms ≡ true → IsClosure path G → leaf_value C cuts G l <ℤ leaf_limit l b → StaysCovered C b (path ∷ others) others
-covered_leaf C cuts b path G others l right rising closure less s o h = elim h [
-  | inl x ↦ covered_low C b others s (certified_bounds C cuts b path l right rising (CertifiesUnder-one C path G l.scale (terms_in cuts l.terms) b closure less) s o x)
-  | inr rest ↦ rest
-]
 
 pub two_front : (xs : List ℤ) → 2 ≤ length xs → xs ≡ get_or xs 0 (pos 0) ∷ get_or xs 1 (pos 0) ∷ drop 2 xs
 two_front [] h = absurd (omega arith)

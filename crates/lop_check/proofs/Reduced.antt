@@ -1,5 +1,5 @@
 -- The numbers that the checker computes for pairs of objects, and the Lagrangian value.
-use Rattle.std.proofs.Common.{◌≡◌, ℕ, ◌*◌, ◌^◌, ◌<◌, ◌≤◌, Bool, cond, List, ℤ, pos, negsuc, neg_ℤ, ◌+ℤ◌, ◌-ℤ◌, ◌*ℤ◌, ◌≤ℤ◌, ◌∙◌, ap, sym, arith, to_z, of_z, FitsSigned}
+use Rattle.std.proofs.Common.{◌≡◌, ℕ, ◌*◌, ◌^◌, ◌<◌, ◌≤◌, Bool, cond, List, ℤ, pos, negsuc, neg_ℤ, ◌+ℤ◌, ◌-ℤ◌, ◌*ℤ◌, ◌≤ℤ◌, ap, arith, to_z, of_z, FitsSigned}
 use Rattle.std.specs.Int.{w64, w128, int_max}
 use Rattle.std.proofs.lemmas.Int.{ints, to_z-of_z}
 use Rattle.lop_model.specs.declared.pair.Pair.{Pair}

@@ -1,5 +1,5 @@
 -- A trail that goes one pair down, and back.
-use Rattle.std.proofs.Common.{◌≡◌, ◌≢◌, ◌↔◌, ℕ, ◌+◌, ◌-◌, ◌*◌, ◌/◌, ◌<◌, ◌≤◌, Bool, true, false, not, cond, eqb, ltb, leb, ◌&&◌, ◌||◌, List, [], ◌∷◌, ◌++◌, append-nil, length, take, drop, get_or, inl, inr, refl, sym, ◌∙◌, ap, subst, arith}
+use Rattle.std.proofs.Common.{◌≡◌, ◌↔◌, ℕ, ◌+◌, ◌-◌, ◌*◌, ◌/◌, ◌<◌, ◌≤◌, Bool, true, false, not, cond, eqb, ltb, ◌&&◌, ◌||◌, List, [], ◌∷◌, ◌++◌, append-nil, length, take, drop, get_or, inl, inr, refl, sym, ◌∙◌, ap, subst, arith}
 use Rattle.std.specs.Prelude.{IsTrue}
 use Rattle.std.proofs.lemmas.Bool.{cases_lt}
 use Rattle.std.proofs.lemmas.Bool.Decides.{nat_tests}
@@ -8,14 +8,14 @@ use Rattle.lop_model.specs.declared.pair.Pair.{Pair}
 use Rattle.lop_model.specs.Cells.{cell}
 use Rattle.lop_model.specs.Related.{pairs_of}
 use Rattle.lop_model.specs.Closing.{linked, closed}
-use Rattle.lop_model.specs.Fixings.{has_pair, LeadsTo, one_pair, pair_then, IsClosure, IsUndecided, IsBranchingPath}
+use Rattle.lop_model.specs.Fixings.{has_pair, LeadsTo, IsClosure, IsUndecided, IsBranchingPath}
 use Rattle.lop_model.proofs.ClosureLemmas.{closed_more, no_chain}
 use Rattle.lop_model.proofs.BranchingLength.{length-branching}
 use Rattle.lop_model.proofs.CellLemmas.{place_within}
 use Rattle.lop_model.proofs.Closings.{IsClosure-closed, chain_below-path}
 use Rattle.lop_model.proofs.RelatedPairs.{has_pair-inside, has_pair-below, related-has_pair, pairs_of-none}
 use Rattle.lop_model.proofs.RisingPairs.{pairs_of-rising}
-use Rattle.lop_check.specs.Trail.{FixedPath, is_fixed, is_within, is_new, is_from, IsTrail, Notes, Takes}
+use Rattle.lop_check.specs.Trail.{is_fixed, is_within, is_new, is_from, IsTrail, Notes, Takes}
 
 -- what a vector holds after all of it was lent
 pub put_back : (new items : List ℕ) (len : ℕ) → length new ≡ length items → len ≡ length items → take len (new ++ drop (length new) items) ≡ new
@@ -64,7 +64,7 @@ last_undecided n front p was =
 positive_within : (c k : ℕ) → c ≤ k → is_within k c ≡ ltb 0 c
 positive_within c k l = grind (arith, nat_tests)
 
-module _ (n : ℕ) (path : List Pair) (room : ℕ) (t : List ℕ) (is : IsTrail n path room t) where
+module _ (n : ℕ) (path : List Pair) (capacity : ℕ) (t : List ℕ) (is : IsTrail n path capacity t) where
   fixed_chain : (x y : ℕ) → x < n → y < n → IsTrue (is_fixed t n x y) ↔ LeadsTo path x y
   fixed_chain x y l m =
       let same : is_within (length path) (cell t n x y) ≡ is_fixed t n x y = positive_within (cell t n x y) (length path) (is.most x y l m) in
@@ -99,12 +99,12 @@ module _ (n : ℕ) (path : List Pair) (room : ℕ) (t : List ℕ) (is : IsTrail 
 
 -- ---- the empty path
 
-pub IsTrail-none : (n room : ℕ) (t : List ℕ) → n * (n - 1) / 2 ≤ room → length t ≡ n * n → ((k : ℕ) → k < length t → get_or t k 0 ≡ 0) → IsTrail n [] room t
-IsTrail-none n room t enough square zeros =
+pub IsTrail-none : (n capacity : ℕ) (t : List ℕ) → n * (n - 1) / 2 ≤ capacity → length t ≡ n * n → ((k : ℕ) → k < length t → get_or t k 0 ≡ 0) → IsTrail n [] capacity t
+IsTrail-none n capacity t enough square zeros =
     let none : (a b : ℕ) → a < n → b < n → cell t n a b ≡ 0 = λ a b l m. zeros (a * n + b) (omega (arith, square, place_within n a b l m)) in
     record {
       branching = record { each = λ i d l. absurd (omega arith) };
-      room_is = enough;
+      fits = enough;
       square = square;
       most = λ a b l m. omega (arith, none a b l m);
       each = λ k a b h l m. (λ u. absurd (nowhere (cell t n a b) k (none a b l m) u), λ r. absurd (no_pairs k a b r));
@@ -131,7 +131,7 @@ most_after : (o len : ℕ) (t : Bool) → o ≤ len → cond t (len + 1) o ≤ l
 most_after o len true l = omega arith
 most_after o len false l = omega arith
 
-module _ (n : ℕ) (path : List Pair) (room : ℕ) (old new : List ℕ) (p : Pair) (is : IsTrail n path room old) (u : IsUndecided n path p.before p.after) (notes : Notes old new n p.before p.after (length path + 1)) where
+module _ (n : ℕ) (path : List Pair) (capacity : ℕ) (old new : List ℕ) (p : Pair) (is : IsTrail n path capacity old) (u : IsUndecided n path p.before p.after) (notes : Notes old new n p.before p.after (length path + 1)) where
   h : ℕ → ℕ → Bool
   h = has_pair (closed path)
 
@@ -139,9 +139,9 @@ module _ (n : ℕ) (path : List Pair) (room : ℕ) (old new : List ℕ) (p : Pai
   linked_is x y l m =
       ap (is_within (length path + 1)) (notes.each x y l m)
       ∙ new_within (cell old n x y) (length path) (is_from old n p.before x) (eqb y p.after || is_fixed old n p.after y) (is.most x y l m)
-      ∙ ap (λ (s : Bool). s || (is_from old n p.before x && (eqb y p.after || is_fixed old n p.after y))) (fixed_is n path room old is x y l m)
-      ∙ ap (λ (s : Bool). has_pair (closed path) x y || ((eqb x p.before || s) && (eqb y p.after || is_fixed old n p.after y))) (fixed_is n path room old is x p.before l u.first)
-      ∙ ap (λ (s : Bool). has_pair (closed path) x y || ((eqb x p.before || has_pair (closed path) x p.before) && (eqb y p.after || s))) (fixed_is n path room old is p.after y u.second m)
+      ∙ ap (λ (s : Bool). s || (is_from old n p.before x && (eqb y p.after || is_fixed old n p.after y))) (fixed_is n path capacity old is x y l m)
+      ∙ ap (λ (s : Bool). has_pair (closed path) x y || ((eqb x p.before || s) && (eqb y p.after || is_fixed old n p.after y))) (fixed_is n path capacity old is x p.before l u.first)
+      ∙ ap (λ (s : Bool). has_pair (closed path) x y || ((eqb x p.before || has_pair (closed path) x p.before) && (eqb y p.after || s))) (fixed_is n path capacity old is p.after y u.second m)
 
   each_after : (k x y : ℕ) → k ≤ length (path ++ p ∷ []) → x < n → y < n → IsTrue (is_within k (cell new n x y)) ↔ LeadsTo (take k (path ++ p ∷ [])) x y
   each_after k x y short l m = elim (cases_lt k (length path + 1)) [
@@ -157,7 +157,7 @@ module _ (n : ℕ) (path : List Pair) (room : ℕ) (old new : List ℕ) (p : Pai
   pub IsTrail-descend : (space : ℕ) → n * (n - 1) / 2 ≤ space → IsTrail n (path ++ p ∷ []) space new
   IsTrail-descend space enough = record {
     branching = IsBranchingPath-push n path p is.branching u;
-    room_is = enough;
+    fits = enough;
     square = notes.same_length ∙ is.square;
     most = λ a b l m. let e = notes.each a b l m in let f = most_after (cell old n a b) (length path) (is_from old n p.before a && is_new old n p.after a b) (is.most a b l m) in omega (arith, e, f, length_push path p);
     each = each_after;
@@ -178,7 +178,7 @@ from_or p false q e u = absurd (by p q e u)
     by : (p q : Bool) → p ≡ false → IsTrue (p || (false && q)) → ⊥
     by p q e u = grind arith
 
-module _ (n : ℕ) (front : List Pair) (room : ℕ) (old new : List ℕ) (p : Pair) (is : IsTrail n (front ++ p ∷ []) room old) (takes : Takes old new n p.before (length front + 1)) where
+module _ (n : ℕ) (front : List Pair) (capacity : ℕ) (old new : List ℕ) (p : Pair) (is : IsTrail n (front ++ p ∷ []) capacity old) (takes : Takes old new n p.before (length front + 1)) where
   longer : length (front ++ p ∷ []) ≡ length front + 1
   longer = length_push front p
 
@@ -225,7 +225,7 @@ module _ (n : ℕ) (front : List Pair) (room : ℕ) (old new : List ℕ) (p : Pa
   pub IsTrail-ascend : (space : ℕ) → n * (n - 1) / 2 ≤ space → IsTrail n front space new
   IsTrail-ascend space enough = record {
     branching = IsBranchingPath-front n front p is.branching;
-    room_is = enough;
+    fits = enough;
     square = takes.same_length ∙ is.square;
     most = λ a b l m.
         rw (takes.each a b l m) (back_most (cell old n a b) (length front) (is_from old n p.before a) (omega (arith, is.most a b l m, longer)) (from_row a b l m));
@@ -238,28 +238,28 @@ module _ (n : ℕ) (front : List Pair) (room : ℕ) (old new : List ℕ) (p : Pa
 -- ---- with the table lent and put back
 
 -- a path that an undecided pair extends has room for it
-pub room_left : (n : ℕ) (path : List Pair) (room : ℕ) (t : List ℕ) (p : Pair) → IsTrail n path room t → IsUndecided n path p.before p.after → length path < room
-room_left n path room t p is u =
+pub capacity_left : (n : ℕ) (path : List Pair) (capacity : ℕ) (t : List ℕ) (p : Pair) → IsTrail n path capacity t → IsUndecided n path p.before p.after → length path < capacity
+capacity_left n path capacity t p is u =
     let most = length-branching n (path ++ p ∷ []) (IsBranchingPath-push n path p is.branching u) in
-    omega (arith, length_push path p, is.room_is)
+    omega (arith, length_push path p, is.fits)
 
-pub descended : (n : ℕ) (path items : List Pair) (room space depth : ℕ) (old lent new : List ℕ) (len : ℕ) (p : Pair) → IsTrail n path room old → IsUndecided n path p.before p.after → items ≡ path ++ p ∷ [] → room ≤ space → depth ≡ length path + 1 → lent ≡ old → len ≡ length old
+pub descended : (n : ℕ) (path items : List Pair) (capacity space depth : ℕ) (old lent new : List ℕ) (len : ℕ) (p : Pair) → IsTrail n path capacity old → IsUndecided n path p.before p.after → items ≡ path ++ p ∷ [] → capacity ≤ space → depth ≡ length path + 1 → lent ≡ old → len ≡ length old
     → Notes lent new n p.before p.after depth → IsTrail n items space (take len (new ++ drop (length new) old))
-descended n path items room space depth old lent new len p is u pushed more at same size notes =
+descended n path items capacity space depth old lent new len p is u pushed more at same size notes =
     let noted : Notes old new n p.before p.after (length path + 1) = subst (λ (d : ℕ). Notes old new n p.before p.after d) at (subst (λ (t : List ℕ). Notes t new n p.before p.after depth) same notes) in
-    rw (pushed, put_back new old len noted.same_length size) (IsTrail-descend n path room old new p is u noted space (omega (arith, is.room_is)))
+    rw (pushed, put_back new old len noted.same_length size) (IsTrail-descend n path capacity old new p is u noted space (omega (arith, is.fits)))
 
-pub ascended : (n : ℕ) (path front : List Pair) (room space depth : ℕ) (old lent new : List ℕ) (len : ℕ) (p : Pair) → IsTrail n path room old → path ≡ front ++ p ∷ [] → room ≤ space → depth ≡ length path → lent ≡ old → len ≡ length old
+pub ascended : (n : ℕ) (path front : List Pair) (capacity space depth : ℕ) (old lent new : List ℕ) (len : ℕ) (p : Pair) → IsTrail n path capacity old → path ≡ front ++ p ∷ [] → capacity ≤ space → depth ≡ length path → lent ≡ old → len ≡ length old
     → Takes lent new n p.before depth → IsTrail n front space (take len (new ++ drop (length new) old))
-ascended n path front room space depth old lent new len p is popped more at same size takes =
-    let there : IsTrail n (front ++ p ∷ []) room old = subst (λ (F : List Pair). IsTrail n F room old) popped is in
+ascended n path front capacity space depth old lent new len p is popped more at same size takes =
+    let there : IsTrail n (front ++ p ∷ []) capacity old = subst (λ (F : List Pair). IsTrail n F capacity old) popped is in
     let deep : depth ≡ length front + 1 = at ∙ ap length popped ∙ length_push front p in
     let taken : Takes old new n p.before (length front + 1) = subst (λ (d : ℕ). Takes old new n p.before d) deep (subst (λ (t : List ℕ). Takes t new n p.before depth) same takes) in
-    rw (put_back new old len taken.same_length size) (IsTrail-ascend n front room old new p there taken space (omega (arith, is.room_is)))
+    rw (put_back new old len taken.same_length size) (IsTrail-ascend n front capacity old new p there taken space (omega (arith, is.fits)))
 
-pub cleared : (n : ℕ) (path items : List Pair) (room space : ℕ) (old lent new : List ℕ) (len : ℕ) → IsTrail n path room old → items ≡ [] → room ≤ space → lent ≡ old → len ≡ length old → length new ≡ length lent → ((k : ℕ) → k < length new → get_or new k 0 ≡ 0)
+pub cleared : (n : ℕ) (path items : List Pair) (capacity space : ℕ) (old lent new : List ℕ) (len : ℕ) → IsTrail n path capacity old → items ≡ [] → capacity ≤ space → lent ≡ old → len ≡ length old → length new ≡ length lent → ((k : ℕ) → k < length new → get_or new k 0 ≡ 0)
     → IsTrail n items space (take len (new ++ drop (length new) old)) × (pairs_of n (is_fixed (take len (new ++ drop (length new) old)) n) ≡ [])
-cleared n path items room space old lent new len is none more same size whole zeros =
+cleared n path items capacity space old lent new len is none more same size whole zeros =
     let long : length new ≡ length old = whole ∙ ap length same in
     let square : length new ≡ n * n = long ∙ is.square in
-    rw (none, put_back new old len long size) (IsTrail-none n space new (omega (arith, is.room_is)) square zeros, fixed-none n new square zeros)
+    rw (none, put_back new old len long size) (IsTrail-none n space new (omega (arith, is.fits)) square zeros, fixed-none n new square zeros)

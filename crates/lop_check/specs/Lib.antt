@@ -1,7 +1,7 @@
 pub mod Verdict
 pub mod Walk
 pub mod Trail
-pub mod Standing
+pub mod TreePlace
 pub mod Cycles
 pub mod Charges
 pub mod Nodes

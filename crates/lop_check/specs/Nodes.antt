@@ -2,7 +2,6 @@
 use Rattle.std.specs.Prelude.{◌≡◌, ◌≤◌, ◌+◌, ◌*◌, ◌&&◌, nat_lt, nat_le, slice_index_or, ℕ, true, pos, nat_abs, Some, Bool, List, [], length, All, ℤ}
 use Rattle.lop_model.specs.declared.pair.Pair.{Pair}
 use Rattle.lop_model.specs.Matrix.{Matrix}
-use Rattle.lop_model.specs.Order.{IsOrder}
 use Rattle.lop_cuts.specs.declared.kind.CutKind.{CutKind}
 use Rattle.lop_cuts.specs.Kind.{IsCut, FitsCut}
 use Rattle.lop_certtext.specs.declared.word.CertWord.{CertWord}
@@ -11,16 +10,21 @@ use Rattle.lop_certtext.specs.Answer.{CheckAnswer, node_step, leaf_step}
 use Rattle.lop_check.specs.declared.node.Proof.{Proof}
 use Rattle.lop_check.specs.declared.verdict.Verdict.{Verdict}
 use Rattle.lop_check.specs.Verdict.{Says}
-use Rattle.lop_check.specs.Standing.{Standing, standing, IsWalk, IsCovered}
+use Rattle.lop_check.specs.TreePlace.{TreePlace, place_after, IsWalk}
 
 -- the cuts are right and of n objects
 pub record AreRightCuts (n : ℕ) (cuts : List CutKind) : Type 0 where
   pub right : All IsCut cuts
   pub fit : All (FitsCut n) cuts
 
--- where the walk stands
-abbrev pub place : Proof → Standing
-place p = standing p.steps.items
+-- the cut is right and of n objects
+pub record IsCutOf (n : ℕ) (cut : CutKind) : Type 0 where
+  pub right : IsCut cut
+  pub fits : FitsCut n cut
+
+-- where the walk over the tree stands
+abbrev pub place : Proof → TreePlace
+place p = place_after p.steps.items
 
 -- what the checker keeps while it walks
 pub record IsProof (n : ℕ) (p : Proof) : Type 0 where
@@ -41,18 +45,14 @@ pub record IsFresh (n : ℕ) (p : Proof) : Type 0 where
   pub root : p.trail ≡ record { size = n; path = []; fixed = [] }
 
 -- the line passes, where the closure of the path is G, and these paths are pending from then on
-abbrev pub Passes : Matrix → List CutKind → ℤ → List Pair → Standing → ℕ → CertWord → List ℤ → List (List Pair) → Type 0
+abbrev pub Passes : Matrix → List CutKind → ℤ → List Pair → TreePlace → ℕ → CertWord → List ℤ → List (List Pair) → Type 0
 Passes C cuts bound G at number word ns left =
     (next : List (List Pair) → CheckAnswer) → node_step C cuts bound G at.path at.others number word ns next ≡ next left
 
 -- the line fails, with this verdict
-abbrev pub Fails : Matrix → List CutKind → ℤ → List Pair → Standing → ℕ → CertWord → List ℤ → Verdict → Type 0
+abbrev pub Fails : Matrix → List CutKind → ℤ → List Pair → TreePlace → ℕ → CertWord → List ℤ → Verdict → Type 0
 Fails C cuts bound G at number word ns verdict =
     (next : List (List Pair) → CheckAnswer) → Says (node_step C cuts bound G at.path at.others number word ns next) verdict
-
--- each order that kept a pending path, or weighed at most the bound, does so now
-abbrev pub StaysCovered : Matrix → ℤ → List (List Pair) → List (List Pair) → Type 0
-StaysCovered C bound before now = (s : List ℕ) → IsOrder C.size s → IsCovered C bound before s → IsCovered C bound now s
 
 -- a term's cut comes after `last` and is one of `count`, and its multiplier isn't 0
 abbrev pub follows : List ℤ → ℕ → ℕ → ℕ → Bool

@@ -1,6 +1,6 @@
 -- The path to a node of the tree, and the pairs that it fixes, in a table of depths: for each ordered pair of n objects, row by row,
 -- how many pairs the path had when a chain first led from the one object to the other, and 0 where none does.
-use Rattle.std.specs.Prelude.{◌≡◌, ◌↔◌, ℕ, ◌+◌, ◌-◌, ◌*◌, ◌/◌, ◌<◌, ◌≤◌, Bool, not, nat_lt, nat_le, ◌==◌, ◌&&◌, ◌||◌, List, length, take, IsTrue, if◌then◌else◌}
+use Rattle.std.specs.Prelude.{◌≡◌, ◌↔◌, ℕ, ◌-◌, ◌*◌, ◌/◌, ◌<◌, ◌≤◌, Bool, not, nat_lt, nat_le, ◌==◌, ◌&&◌, ◌||◌, List, length, take, IsTrue, if◌then◌else◌}
 use Rattle.lop_model.specs.declared.pair.Pair.{Pair}
 use Rattle.lop_model.specs.Cells.{cell}
 use Rattle.lop_model.specs.Fixings.{LeadsTo, IsBranchingPath}
@@ -21,9 +21,9 @@ is_within k depth = nat_lt 0 depth && nat_le depth k
 
 -- the path is one of branching decisions, with room for one pair of each two objects; the first k of its pairs lead from a to b
 -- where the depth of a and b is one of 1 to k
-pub record IsTrail (n : ℕ) (path : List Pair) (room : ℕ) (t : List ℕ) : Type 0 where
+pub record IsTrail (n : ℕ) (path : List Pair) (capacity : ℕ) (t : List ℕ) : Type 0 where
   pub branching : IsBranchingPath n path
-  pub room_is : n * (n - 1) / 2 ≤ room
+  pub fits : n * (n - 1) / 2 ≤ capacity
   pub square : length t ≡ n * n
   pub most : (a b : ℕ) → a < n → b < n → cell t n a b ≤ length path
   pub each : (k a b : ℕ) → k ≤ length path → a < n → b < n → IsTrue (is_within k (cell t n a b)) ↔ LeadsTo (take k path) a b

@@ -1,8 +1,8 @@
 -- What a verdict says of the text, of the weights and of the desk.
 use Rattle.std.specs.Prelude.{◌≡◌, ℕ, List, ℤ, ⊤}
 use Rattle.lop_desk.specs.Causes.{Rose}
-use Rattle.lop_model.specs.Order.{IsOrder}
-use Rattle.lop_model.specs.Matrix.{Matrix, weight, IsUpperBound}
+use Rattle.lop_model.specs.Attained.{IsAttained}
+use Rattle.lop_model.specs.Matrix.{Matrix, IsUpperBound}
 use Rattle.lop_certtext.specs.Certificate.{IsCertificateText}
 use Rattle.lop_certtext.specs.Answer.{CheckAnswer, accepted, rejected, too_long}
 use Rattle.lop_check.specs.declared.verdict.Verdict.{Verdict}
@@ -32,13 +32,9 @@ IsExact C bytes TooLong = (value bound : ℤ) → ¬ (IsCertificateText C bytes 
 IsExact C bytes Failed = ⊤
 IsExact C bytes Memory = ⊤
 
--- some order of C's objects weighs this
-abbrev pub IsWeighed : Matrix → ℤ → Type 0
-IsWeighed C value = (s : List ℕ) × (IsOrder C.size s × (weight C s ≡ value))
-
 -- an accepted value is the weight of some order, and no order weighs more than the accepted bound
 abbrev pub IsBounded : Matrix → Verdict → Type 0
-IsBounded C (Accepted value bound) = IsWeighed C value × IsUpperBound C bound
+IsBounded C (Accepted value bound) = IsAttained C value × IsUpperBound C bound
 IsBounded C (Rejected line reason) = ⊤
 IsBounded C TooLong = ⊤
 IsBounded C Failed = ⊤

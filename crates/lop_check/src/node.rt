@@ -5,14 +5,13 @@ ghost use Rattle.lop_model.specs.Matrix.{Matrix};
 ghost use Rattle.lop_certtext.specs.declared.word.CertWord.TheVariants as words;
 ghost use Rattle.lop_certtext.specs.Answer.{CheckAnswer, split_of};
 ghost use Rattle.lop_check.specs.Trail.{FixedPath};
-ghost use Rattle.lop_check.specs.Verdict.{IsBounded, Says, VerdictCause};
-ghost use Rattle.lop_check.specs.Standing.{pending, pending_if};
-ghost use Rattle.lop_check.specs.Nodes.{IsFresh, IsRoomOf, IsProof, AreTerms, Passes, Fails, StaysCovered, place, shown};
+ghost use Rattle.lop_check.specs.Verdict.{Says, VerdictCause};
+ghost use Rattle.lop_check.specs.TreePlace.{pending_if};
+ghost use Rattle.lop_check.specs.Nodes.{IsFresh, IsRoomOf, IsProof, AreTerms, Passes, Fails, place, shown};
 
 use crate::cut::{is_object, object_of};
 use crate::leaf::is_leaf_row;
 use crate::path::{Step, enter, leave, may_split};
-use crate::reading::rejected;
 use crate::trail::Trail;
 use crate::upper::upper;
 use crate::{Reason, Verdict};
@@ -56,6 +55,13 @@ impl Proof {
     }
 }
 
+// The line fails, for this reason.
+fn rejected(line: u64, reason: Reason) -> Verdict
+    ensures { result ≡ Verdict.Rejected line reason }
+{
+    Verdict::Rejected { line, reason }
+}
+
 // A line of the tree. Whether there are further subtrees.
 pub fn node_step(
     weights: &Weights,
@@ -69,15 +75,13 @@ pub fn node_step(
     ensures kept { IfOk result (λ more. IsTrue more → IsProof weights.now.size proof.new) }
     ensures cuts { proof.new.cuts ≡ proof.old.cuts }
     ensures passes { IfOk result (λ more. Passes weights.now proof.old.cuts.items bound proof.old.trail.fixed (place proof.old) number word numbers.now (pending_if more (place proof.new))) }
-    ensures covers { IfOk result (λ more. StaysCovered weights.now bound (pending (place proof.old)) (pending_if more (place proof.new))) }
     ensures fails { IfErr result (Fails weights.now proof.old.cuts.items bound proof.old.trail.fixed (place proof.old) number word numbers.now) }
     ensures room { IsRoomOf weights.now.size proof.new }
-    ensures bounded { (C : Matrix) → IfErr result (IsBounded C) }
     ensures cause { (before now : ℕ) → IfErr result (VerdictCause before now) }
 {
     match word {
         CertWord::SplitLine => split_step(weights, proof, bound, numbers, number),
-        CertWord::Leaf => leaf_step(weights, proof, bound, numbers, number),
+        CertWord::Leaf => leaf_step(weights, proof, bound, number, numbers),
         _ => Err(rejected(number, Reason::Spelling)),
     }
 }
@@ -118,10 +122,8 @@ fn split_step(
     ensures kept { IfOk result (λ more. IsTrue more → IsProof weights.now.size proof.new) }
     ensures cuts { proof.new.cuts ≡ proof.old.cuts }
     ensures passes { IfOk result (λ more. Passes weights.now proof.old.cuts.items bound proof.old.trail.fixed (place proof.old) number words.SplitLine numbers.now (pending_if more (place proof.new))) }
-    ensures covers { IfOk result (λ more. StaysCovered weights.now bound (pending (place proof.old)) (pending_if more (place proof.new))) }
     ensures fails { IfErr result (Fails weights.now proof.old.cuts.items bound proof.old.trail.fixed (place proof.old) number words.SplitLine numbers.now) }
     ensures room { IsRoomOf weights.now.size proof.new }
-    ensures bounded { (C : Matrix) → IfErr result (IsBounded C) }
     ensures cause { (before now : ℕ) → IfErr result (VerdictCause before now) }
 {
     let n = weights.n();
@@ -139,17 +141,15 @@ fn leaf_step(
     weights: &Weights,
     proof: &mut Proof,
     bound: i64,
-    numbers: &[i64],
     number: u64,
+    numbers: &[i64],
 ) -> Result<bool, Verdict>
     requires kept { IsProof weights.now.size proof.old }
     ensures kept { IfOk result (λ more. IsTrue more → IsProof weights.now.size proof.new) }
     ensures cuts { proof.new.cuts ≡ proof.old.cuts }
     ensures passes { IfOk result (λ more. Passes weights.now proof.old.cuts.items bound proof.old.trail.fixed (place proof.old) number words.Leaf numbers.now (pending_if more (place proof.new))) }
-    ensures covers { IfOk result (λ more. StaysCovered weights.now bound (pending (place proof.old)) (pending_if more (place proof.new))) }
     ensures fails { IfErr result (Fails weights.now proof.old.cuts.items bound proof.old.trail.fixed (place proof.old) number words.Leaf numbers.now) }
     ensures room { IsRoomOf weights.now.size proof.new }
-    ensures bounded { (C : Matrix) → IfErr result (IsBounded C) }
     ensures cause { (before now : ℕ) → IfErr result (VerdictCause before now) }
 {
     match numbers {
@@ -174,15 +174,12 @@ fn shown_step(
     number: u64,
 ) -> Result<bool, Verdict>
     requires kept { IsProof weights.now.size proof.old }
-    requires scale { scale ≤ 65536 }
-    requires terms { AreTerms (length proof.old.cuts.items) terms.now }
+    requires row { (scale ≤ 65536) × AreTerms (length proof.old.cuts.items) terms.now }
     ensures kept { IfOk result (λ more. IsTrue more → IsProof weights.now.size proof.new) }
     ensures cuts { proof.new.cuts ≡ proof.old.cuts }
     ensures passes { IfOk result (λ more. (next : List (List Pair) → CheckAnswer) → shown weights.now proof.old scale terms.now bound number next ≡ next (pending_if more (place proof.new))) }
-    ensures covers { IfOk result (λ more. StaysCovered weights.now bound (pending (place proof.old)) (pending_if more (place proof.new))) }
     ensures fails { IfErr result (λ v. (next : List (List Pair) → CheckAnswer) → Says (shown weights.now proof.old scale terms.now bound number next) v) }
     ensures room { IsRoomOf weights.now.size proof.new }
-    ensures bounded { (C : Matrix) → IfErr result (IsBounded C) }
     ensures cause { (before now : ℕ) → IfErr result (VerdictCause before now) }
 {
     let upper = upper(

@@ -1,39 +1,47 @@
 // The numbers of an order's line, and what the weights give for them.
-ghost use Rattle.std.specs.Prelude.{◌≡◌, ◌<◌, ◌^◌, ◌==◌, ◌&&◌, int_le, [], true, length, pos, neg_ℤ, ◌≤ℤ◌, nat_abs, slice_index};
+ghost use Rattle.std.specs.Prelude.{◌≡◌, ◌<◌, ◌-◌, ◌^◌, nat_eq, true, length, pos, neg_ℤ, ◌≤ℤ◌, nat_abs, slice_index};
 ghost use Rattle.std.specs.List.{list_any};
 ghost use Rattle.lop_model.specs.Matrix.{weight};
+ghost use Rattle.lop_cuts.specs.CutTests.{are_different};
 ghost use Rattle.lop_certtext.specs.Answer.{is_order};
 ghost use Rattle.lop_certtext.specs.CutLine.{objects_of};
 
-use crate::cut::is_object;
+use crate::cut::name_objects;
 use lop_model::Weights;
 
-// Whether the number is one of these.
+// The object that a number stands for, where they count from 1.
+fn named_by(number: i64) -> u64
+    ensures { result ≡ nat_abs number - 1 }
+{
+    number.unsigned_abs().saturating_sub(1)
+}
+
+// Whether the number's object is one that these stand for.
 fn is_among(numbers: &[i64], number: i64) -> bool
-    ensures { result ≡ list_any (λ y. nat_abs y == nat_abs number) numbers.now }
+    ensures { result ≡ list_any (λ y. nat_eq (nat_abs number - 1) (nat_abs y - 1)) numbers.now }
 {
     numbers
         .iter()
-        .any(|other| other.unsigned_abs() == number.unsigned_abs())
+        .any(|other| named_by(number) == named_by(*other))
+}
+
+// Whether no object stands twice. O(n²).
+fn are_different(numbers: &[i64]) -> bool
+    ensures { result ≡ are_different (objects_of numbers.now) }
+{
+    for place in 0..numbers.len() {
+        if is_among(&numbers[place + 1..], numbers[place]) {
+            return false;
+        }
+    }
+    true
 }
 
 // Whether the numbers are an order of 1 to n. O(n²).
 pub fn are_order(numbers: &[i64], n: u16) -> bool
     ensures { result ≡ is_order n numbers.now }
 {
-    if numbers.len() != n as usize {
-        return false;
-    }
-    for p in 0..numbers.len() {
-        let number = numbers[p];
-        if !is_object(number, n) {
-            return false;
-        }
-        if is_among(&numbers[..p], number) {
-            return false;
-        }
-    }
-    true
+    numbers.len() == n as usize && name_objects(numbers, n) && are_different(numbers)
 }
 
 // The object at a place of an order's line, where objects count from 1.

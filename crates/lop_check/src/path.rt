@@ -3,7 +3,7 @@ ghost use Rattle.std.specs.Prelude.{◌≡◌, ◌<◌, [], ◌∷◌, ◌++◌,
 ghost use Rattle.lop_model.specs.Fixings.{IsUndecided};
 ghost use Rattle.lop_model.specs.Reversed.{reversed};
 ghost use Rattle.lop_certtext.specs.Answer.{may_split};
-ghost use Rattle.lop_check.specs.Standing.{standing, stepped, pending, pending_if, IsWalk};
+ghost use Rattle.lop_check.specs.TreePlace.{place_after, stepped, pending, pending_if, IsWalk};
 
 use crate::trail::Trail;
 use lop_model::Pair;
@@ -41,7 +41,7 @@ pub fn may_split(trail: &Trail, pair: Pair) -> bool
 pub fn enter(n: u16, steps: &mut Vec<Step>, trail: &mut Trail, pair: Pair) -> Result<(), AllocError>
     requires walk { IsWalk n steps.old.items trail.old }
     requires undecided { IsUndecided n trail.old.path pair.before pair.after }
-    ensures at { OnOk result (standing steps.new.items ≡ stepped (standing steps.old.items) (record { pair = pair; reverse_due = true })) }
+    ensures at { OnOk result (place_after steps.new.items ≡ stepped (place_after steps.old.items) (record { pair = pair; reverse_due = true })) }
     ensures walk { OnOk result (IsWalk n steps.new.items trail.new) }
     ensures size { trail.new.size ≡ n }
 {
@@ -56,7 +56,7 @@ pub fn enter(n: u16, steps: &mut Vec<Step>, trail: &mut Trail, pair: Pair) -> Re
 // Takes back the steps behind the last whose reverse is still to come. Whether there is one.
 fn drop_done(n: u16, steps: &mut Vec<Step>, trail: &mut Trail) -> bool
     requires { IsWalk n steps.old.items trail.old }
-    ensures others { (standing steps.new.items).others ≡ (standing steps.old.items).others }
+    ensures others { (place_after steps.new.items).others ≡ (place_after steps.old.items).others }
     ensures walk { IsWalk n steps.new.items trail.new }
     ensures last { MatchBool result ((front : List Step) × (last : Step) × (steps.new.items ≡ front ++ last ∷ []) × (last.reverse_due ≡ true)) (steps.new.items ≡ []) }
 {
@@ -74,7 +74,7 @@ fn drop_done(n: u16, steps: &mut Vec<Step>, trail: &mut Trail) -> bool
 fn turn(n: u16, steps: &mut Vec<Step>, trail: &mut Trail)
     requires walk { IsWalk n steps.old.items trail.old }
     requires last { (front : List Step) × (last : Step) × (steps.old.items ≡ front ++ last ∷ []) × (last.reverse_due ≡ true) }
-    ensures others { pending (standing steps.new.items) ≡ (standing steps.old.items).others }
+    ensures others { pending (place_after steps.new.items) ≡ (place_after steps.old.items).others }
     ensures walk { IsWalk n steps.new.items trail.new }
 {
     let last = steps.len() - 1;
@@ -90,7 +90,7 @@ fn turn(n: u16, steps: &mut Vec<Step>, trail: &mut Trail)
 // A subtree has ended. On to the next one, if there is one.
 pub fn leave(n: u16, steps: &mut Vec<Step>, trail: &mut Trail) -> bool
     requires { IsWalk n steps.old.items trail.old }
-    ensures next { pending_if result (standing steps.new.items) ≡ (standing steps.old.items).others }
+    ensures next { pending_if result (place_after steps.new.items) ≡ (place_after steps.old.items).others }
     ensures walk { IsTrue result → IsWalk n steps.new.items trail.new }
     ensures size { trail.new.size ≡ n }
 {

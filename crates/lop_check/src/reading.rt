@@ -1,45 +1,52 @@
 // A certificate's lines, one at a time.
-ghost use Rattle.std.specs.Prelude.{◌≡◌, ◌≤◌, ◌^◌, [], ℕ, ℤ, true, length, IfOk, OnOk, IfErr, IfSome};
-ghost use Rattle.lop_desk.specs.Desk.{IsOpen};
-ghost use Rattle.lop_desk.specs.Whole.{OnlyOpens};
-ghost use Rattle.lop_certtext.specs.Answer.{tail_step, only_number};
-ghost use Rattle.lop_certtext.specs.Line.{is_row};
-ghost use Rattle.lop_check.specs.Verdict.{VerdictCause};
-ghost use Rattle.lop_check.specs.Walk.{Answers, GoesOn, StopsAt, ReadsLine, StopsLine, Advances, HasDueRow};
+ghost use Rattle.std.specs.Prelude.{◌≡◌, ◌+◌, [], ℕ, ℤ, List, true, IfOk, IfErr, OnOk};
+ghost use Rattle.lop_certtext.specs.Answer.{TextLine, CheckAnswer, accepted, expect, only_number, spelled, tail_step};
+ghost use Rattle.lop_certtext.specs.Line.{CertLine, is_row};
+ghost use Rattle.lop_check.specs.Walk.{EndsCheck, HandsOver, HasDueRow, IsReading, ReadsOn, is_due, spot};
 
 use crate::{Reason, Verdict};
 use lop_certtext::{CertWord, NumberRoom, read_line};
 use lop_desk::{Desk, Line, LineReader, LineStop};
 use std::alloc::{AllocError, Global};
 
-// The reader of lines, and the numbers of the line read last.
+// A text of 2^40 bytes has no more lines than this.
+const MOST_LINES: u64 = 1 << 41;
+
+// The reader of lines, the numbers of the line read last, and which line that was, from 1.
 #[derive(Drop)]
 pub struct Reading {
     lines: LineReader,
     numbers: NumberRoom,
-}
-
-// A line fails, for this reason.
-pub fn rejected(line: u64, reason: Reason) -> Verdict
-    ensures { result ≡ Verdict.Rejected line reason }
-{
-    Verdict::Rejected { line, reason }
+    number: u64,
 }
 
 impl Reading {
     pub fn new(alloc: Global) -> Result<Reading, AllocError>
-        ensures { IfOk result (λ r. (r.lines ≡ record { count = 0; pending = []; line = [] }) × (r.numbers ≡ [])) }
+        ensures { IfOk result (λ r. (r.lines ≡ record { count = 0; pending = []; line = [] }) × (r.numbers ≡ []) × (r.number ≡ 0)) }
     {
         let lines = LineReader::new(alloc)?;
         let numbers = NumberRoom::new(alloc)?;
-        Ok(Reading { lines, numbers })
+        Ok(Reading {
+            lines,
+            numbers,
+            number: 0,
+        })
     }
 
     // Forgets what was read, for a file that was opened anew.
     pub fn start(&mut self)
-        ensures { self.new.lines ≡ record { count = 0; pending = []; line = [] } }
+        ensures lines { self.new.lines ≡ record { count = 0; pending = []; line = [] } }
+        ensures number { self.new.number ≡ 0 }
     {
         self.lines.start();
+        self.number = 0;
+    }
+
+    // Which line it is, from 1.
+    pub fn number(&self) -> u64
+        ensures { result ≡ self.now.number }
+    {
+        self.number
     }
 
     // The numbers of the line.
@@ -50,7 +57,7 @@ impl Reading {
     }
 
     // The one number of a line that has one.
-    pub fn number(&self) -> i64
+    pub fn only_number(&self) -> i64
         ensures { result ≡ only_number self.now.numbers }
     {
         match self.numbers.numbers().first() {
@@ -58,95 +65,74 @@ impl Reading {
             None => 0,
         }
     }
+
+    // The line fails, for this reason.
+    pub fn rejected(&self, reason: Reason) -> Verdict
+        ensures { result ≡ Verdict.Rejected self.now.number reason }
+    {
+        Verdict::Rejected {
+            line: self.number,
+            reason,
+        }
+    }
 }
 
 impl Reading {
-    ghost use Rattle.lop_check.specs.Verdict.{IsBounded};
-    ghost use Rattle.lop_model.specs.Matrix.{Matrix};
-
     // The next line, which has to be spelled right: its word; then `numbers` has its numbers.
-    pub fn line<D: Desk>(&mut self, desk: &mut D, number: u64) -> Result<CertWord, Verdict>
-        requires opened { IsOpen (D.told desk.old) }
-        requires limit { self.old.lines.count ≤ 2 ^ 40 }
-        ensures read { IfOk result (λ word. ReadsLine number (D.told desk.old) (D.told desk.new) self.old.lines self.new.lines word self.new.numbers) }
-        ensures advances { OnOk result (IfSome (D.told desk.old) (λ _. Advances self.old.lines self.new.lines)) }
+    pub fn line<D: Desk>(&mut self, desk: &mut D) -> Result<CertWord, Verdict>
+        requires { IsReading (spot (D.told desk.old) (D.faults desk.old) self.old) }
+        ensures goes { IfOk result (λ word. (next : ℕ → CertLine → List TextLine → CheckAnswer) → ReadsOn (spot (D.told desk.old) (D.faults desk.old) self.old) (spot (D.told desk.new) (D.faults desk.new) self.new) (λ lines. spelled (self.old.number + 1) lines (next (self.old.number + 1))) (next self.new.number (record { word = word; numbers = self.new.numbers }))) }
+        ensures stops { IfErr result (λ verdict. (next : ℕ → CertLine → List TextLine → CheckAnswer) → EndsCheck (spot (D.told desk.old) (D.faults desk.old) self.old) (spot (D.told desk.new) (D.faults desk.new) self.new) (λ lines. spelled (self.old.number + 1) lines (next (self.old.number + 1))) verdict) }
         ensures row { IfOk result (λ word. is_row word self.new.numbers ≡ true) }
-        ensures stop { IfErr result (StopsLine number (D.told desk.old) self.old.lines) }
-        ensures refused { (C : Matrix) → IfErr result (IsBounded C) }
-        ensures opened { IsOpen (D.told desk.new) }
-        ensures limit { OnOk result (self.new.lines.count ≤ 2 ^ 40) }
-        ensures world { OnlyOpens (D.told desk.old) (D.told desk.new) }
-        ensures later { D.faults desk.old ≤ D.faults desk.new }
-        ensures cause { IfErr result (VerdictCause (D.faults desk.old) (D.faults desk.new)) }
+        ensures number { OnOk result (self.new.number ≡ self.old.number + 1) }
     {
+        if self.number == MOST_LINES {
+            return Err(Verdict::TooLong);
+        }
+        self.number += 1;
         match self.lines.next_line(desk) {
             Ok(Line::Text { ended: true, .. }) => {
                 match read_line(self.lines.text(), &mut self.numbers) {
                     Ok(word) => Ok(word),
-                    Err(_) => Err(rejected(number, Reason::Spelling)),
+                    Err(_) => Err(self.rejected(Reason::Spelling)),
                 }
             }
-            Ok(Line::Text { ended: false, .. }) => Err(rejected(number, Reason::Spelling)),
-            Ok(Line::End) => Err(rejected(number, Reason::Short)),
-            Err(LineStop::LineTooLong) => Err(rejected(number, Reason::Spelling)),
+            Ok(Line::Text { ended: false, .. }) => Err(self.rejected(Reason::Spelling)),
+            Ok(Line::End) => Err(self.rejected(Reason::Short)),
+            Err(LineStop::LineTooLong) => Err(self.rejected(Reason::Spelling)),
             Err(LineStop::TooLong) => Err(Verdict::TooLong),
             Err(LineStop::Failed) => Err(Verdict::Failed),
         }
     }
 
     // The next line, which has to begin with the word `due`; then `numbers` has its numbers.
-    pub fn expect<D: Desk>(
-        &mut self,
-        desk: &mut D,
-        due: CertWord,
-        number: u64,
-    ) -> Result<(), Verdict>
-        requires opened { IsOpen (D.told desk.old) }
-        requires limit { self.old.lines.count ≤ 2 ^ 40 }
-        ensures read { OnOk result (GoesOn due number (D.told desk.old) (D.told desk.new) self.old.lines self.new.lines self.new.numbers) }
+    pub fn expect<D: Desk>(&mut self, desk: &mut D, due: CertWord) -> Result<(), Verdict>
+        requires { IsReading (spot (D.told desk.old) (D.faults desk.old) self.old) }
+        ensures goes { IfOk result (λ _. (next : ℕ → List ℤ → List TextLine → CheckAnswer) → ReadsOn (spot (D.told desk.old) (D.faults desk.old) self.old) (spot (D.told desk.new) (D.faults desk.new) self.new) (λ lines. expect (is_due due) (self.old.number + 1) lines (next (self.old.number + 1))) (next self.new.number self.new.numbers)) }
+        ensures stops { IfErr result (λ verdict. (next : ℕ → List ℤ → List TextLine → CheckAnswer) → EndsCheck (spot (D.told desk.old) (D.faults desk.old) self.old) (spot (D.told desk.new) (D.faults desk.new) self.new) (λ lines. expect (is_due due) (self.old.number + 1) lines (next (self.old.number + 1))) verdict) }
         ensures row { OnOk result (HasDueRow due self.new.numbers) }
-        ensures stop { IfErr result (StopsAt due number (D.told desk.old) self.old.lines) }
-        ensures refused { (C : Matrix) → IfErr result (IsBounded C) }
-        ensures opened { IsOpen (D.told desk.new) }
-        ensures limit { OnOk result (self.new.lines.count ≤ 2 ^ 40) }
-        ensures world { OnlyOpens (D.told desk.old) (D.told desk.new) }
-        ensures later { D.faults desk.old ≤ D.faults desk.new }
-        ensures cause { IfErr result (VerdictCause (D.faults desk.old) (D.faults desk.new)) }
+        ensures number { OnOk result (self.new.number ≡ self.old.number + 1) }
     {
-        match self.line(desk, number) {
-            Ok(word) => {
-                if word == due {
-                    Ok(())
-                } else {
-                    Err(rejected(number, Reason::Spelling))
-                }
-            }
-            Err(verdict) => Err(verdict),
+        if self.line(desk)? == due {
+            Ok(())
+        } else {
+            Err(self.rejected(Reason::Spelling))
         }
     }
 
     // Nothing may stand behind the end.
-    pub fn tail_step<D: Desk>(
-        &mut self,
-        desk: &mut D,
-        value: i64,
-        bound: i64,
-        number: u64,
-    ) -> Verdict
-        requires opened { IsOpen (D.told desk.old) }
-        requires limit { self.old.lines.count ≤ 2 ^ 40 }
-        ensures answer { Answers (D.told desk.old) self.old.lines (tail_step value bound number) result }
-        ensures bounded { (C : Matrix) → IsBounded C (Verdict.Accepted value bound) → IsBounded C result }
-        ensures world { OnlyOpens (D.told desk.old) (D.told desk.new) }
-        ensures later { D.faults desk.old ≤ D.faults desk.new }
-        ensures cause { VerdictCause (D.faults desk.old) (D.faults desk.new) result }
+    pub fn tail<D: Desk>(&mut self, desk: &mut D) -> Result<(), Verdict>
+        requires { IsReading (spot (D.told desk.old) (D.faults desk.old) self.old) }
+        ensures { (value bound : ℤ) → HandsOver (spot (D.told desk.old) (D.faults desk.old) self.old) (spot (D.told desk.new) (D.faults desk.new) self.new) (tail_step value bound (self.old.number + 1)) (λ _ _. accepted value bound) result }
     {
+        let line = self.number + 1;
+        let reason = Reason::Tail;
         match self.lines.next_line(desk) {
-            Ok(Line::End) => Verdict::Accepted { value, bound },
-            Ok(Line::Text { .. }) => rejected(number, Reason::Tail),
-            Err(LineStop::LineTooLong) => rejected(number, Reason::Tail),
-            Err(LineStop::TooLong) => Verdict::TooLong,
-            Err(LineStop::Failed) => Verdict::Failed,
+            Ok(Line::End) => Ok(()),
+            Ok(Line::Text { .. }) => Err(Verdict::Rejected { line, reason }),
+            Err(LineStop::LineTooLong) => Err(Verdict::Rejected { line, reason }),
+            Err(LineStop::TooLong) => Err(Verdict::TooLong),
+            Err(LineStop::Failed) => Err(Verdict::Failed),
         }
     }
 }

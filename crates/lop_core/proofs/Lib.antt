@@ -1,5 +1,6 @@
 pub mod Lists
 pub mod CutIndexLemmas
+pub mod MergeLemmas
 pub mod RecordLemmas
 pub mod SameRecords
 pub mod ExtensionLemmas
@@ -9,7 +10,6 @@ pub mod Replay
 pub mod Fates
 pub mod Counts
 pub mod Linked
-pub mod Scans
 pub mod CandidateLemmas
 pub mod CandidateSteps
 pub mod ReadyCount
@@ -24,5 +24,6 @@ pub mod DoneNodes
 pub mod JudgeLemmas
 pub mod Monotone
 pub mod Alone
+pub mod OutLemmas
 pub mod Workers
 pub mod StandingRecords

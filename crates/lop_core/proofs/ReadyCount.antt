@@ -1,6 +1,6 @@
 -- There are as many candidates as live idle nodes.
 use Rattle.std.proofs.Common.{◌≡◌, ◌≢◌, ℕ, ◌+◌, ◌<◌, ◌≤◌, List, [], ◌∷◌, length, get_or, arith, sym, ◌∙◌, refl, ap, subst, suc, zero, Bool, true, false, Contains, IsPermutation}
-use Rattle.std.specs.Prelude.{ℤ, ◌&&◌, int_lt, All, AllPairs, count_by}
+use Rattle.std.specs.Prelude.{ℤ, ◌&&◌, int_lt, All, AllPairs}
 use Rattle.std.specs.List.{remove}
 use Rattle.std.proofs.lemmas.List.Elements.{All-head, All-tail, All-cons, All-nil}
 use Rattle.std.proofs.lemmas.List.Kept.{AllPairs-cons}
@@ -9,7 +9,7 @@ use Rattle.std.proofs.lemmas.List.Sorted.{length_permutation, IsPermutation-remo
 use Rattle.lop_core.specs.declared.node.SearchNode.{SearchNode}
 use Rattle.lop_core.specs.declared.candidates.Candidate.{Candidate}
 use Rattle.lop_core.specs.Tree.{node_at, is_idle}
-use Rattle.lop_core.specs.Machine.{IsReady, ready_count}
+use Rattle.lop_core.specs.Machine.{ready_count}
 use Rattle.lop_core.specs.Candidates.{AreCandidates, candidate}
 use Rattle.lop_core.proofs.Sound.{one_if}
 use Rattle.lop_core.proofs.CandidateLemmas.{ready_by, passes_by}

@@ -1,12 +1,12 @@
 -- A record that a node has already, and the terms of records that are told apart by their numbers.
-use Rattle.std.proofs.Common.{◌≡◌, ◌≢◌, ℕ, ◌+◌, ◌<◌, ◌≤◌, List, [], ◌∷◌, ◌++◌, length, get_or, set, take, arith, sym, ◌∙◌, refl, ap, subst, Bool, true, false, ◌&&◌, ◌||◌, map, eqb, zero, suc, length-set}
-use Rattle.std.specs.Prelude.{All, AllPairs, Any, Contains, IsPermutation, sum}
-use Rattle.std.specs.List.{list_any, list_all, sum_by, remove}
+use Rattle.std.proofs.Common.{◌≡◌, ◌≢◌, ℕ, ◌+◌, ◌<◌, ◌≤◌, List, [], ◌∷◌, length, get_or, set, arith, sym, ◌∙◌, refl, ap, subst, Bool, true, false, ◌&&◌, map, eqb, zero, suc, length-set}
+use Rattle.std.specs.Prelude.{All, AllPairs, Contains, IsPermutation, sum}
+use Rattle.std.specs.List.{list_all, sum_by, remove}
 use Rattle.std.proofs.lemmas.Bool.Decides.{nat_tests}
-use Rattle.std.proofs.lemmas.List.{get_or-map, get_or-set_other, length-map, get_or_default}
+use Rattle.std.proofs.lemmas.List.{get_or-map, get_or-set_other, length-map}
 use Rattle.std.proofs.lemmas.List.Elements.{All-head, All-tail}
 use Rattle.std.proofs.lemmas.List.Folds.{Any-from_list_any, list_any-from_Any}
-use Rattle.std.proofs.lemmas.List.Sums.{AllPass-from_list_all, list_all-from_AllPass, sum_by-set, sum_by-cons, sum-map}
+use Rattle.std.proofs.lemmas.List.Sums.{AllPass-from_list_all, sum_by-set, sum_by-cons, sum-map}
 use Rattle.std.proofs.lemmas.List.Sorted.{length_permutation, IsPermutation-refl, IsPermutation-cons, IsPermutation-trans, IsPermutation-sym, IsPermutation-remove, Contains-permutation}
 use Rattle.lop_cuts.specs.declared.kind.CutKind.{CutKind}
 use Rattle.lop_cuts.specs.contracts.kind.CutKindPartialEq.TheImpl.{ghosts as of_kind}

@@ -1,5 +1,5 @@
 -- A node that is out keeps its record too, whatever calls come.
-use Rattle.std.proofs.Common.{◌≡◌, ◌≢◌, ℕ, ◌<◌, List, [], ◌∷◌, ◌++◌, length, arith, sym, ◌∙◌, refl, ap, subst, zero, suc, append-nil, append_assoc}
+use Rattle.std.proofs.Common.{◌≡◌, ◌≢◌, ℕ, ◌<◌, List, [], ◌∷◌, ◌++◌, length, arith, sym, ◌∙◌, ap, subst, zero, suc, append-nil, append_assoc}
 use Rattle.std.proofs.lemmas.List.{get_or_append_left}
 use Rattle.std.proofs.lemmas.Option.{slice_get_within}
 use Rattle.lop_leaf.specs.Record.{ScaledTerms, IsScaledTerms}
@@ -13,8 +13,8 @@ use Rattle.lop_core.specs.declared.reply.ReportReply.{ReportReply}
 use Rattle.lop_core.specs.declared.reply.ReportReply.TheVariants.{Closed, Split, NotYours}
 use Rattle.lop_core.specs.Machine.{Problem, SearchState, IsOutTo}
 use Rattle.lop_core.specs.Journal.{replay, entries_of, HasTake, HasReport, IsLawfulJournal}
-use Rattle.lop_core.specs.Records.{NodeRecord, RecordBook, empty_record, number_at, record_at, scaled_of, with_children}
-use Rattle.lop_core.specs.Core.{CoreFields, HasHistory, IsTake, IsReport, IsReported, IsSoundReport, entry_of}
+use Rattle.lop_core.specs.Records.{RecordBook, empty_record, record_at, scaled_of}
+use Rattle.lop_core.specs.Core.{CoreFields, IsTake, IsReport, IsReported, IsSoundReport, entry_of}
 use Rattle.lop_core.specs.Workers.{IsCore, IsCall, Leads, StandsStill}
 use Rattle.lop_core.specs.Workers.IsCall.{take_call, report_call}
 use Rattle.lop_core.proofs.CoreLemmas.{core_out, report_facts}

@@ -1,18 +1,16 @@
 -- Laws for several workers: a node that is out stands still, when none is out, and what determines the problem.
-use Rattle.std.proofs.Common.{◌≡◌, ◌≢◌, ℕ, ◌+◌, ◌<◌, ◌≤◌, List, [], ◌∷◌, ◌++◌, length, get_or, take, inl, inr, arith, sym, ◌∙◌, Some, None, Option, refl, ap, subst, Bool, true, false, zero, suc, length-append, length-set, append-nil, append_assoc, eq-eqb}
-use Rattle.std.specs.Prelude.{slice_get, ℤ, pos, ◌≤ℤ◌, ◌^◌, neg_ℤ, int_lt, IfNone, if◌then◌else◌, Any, All, filter, count_by, ◌==◌}
+use Rattle.std.proofs.Common.{◌≡◌, ◌≢◌, ℕ, ◌+◌, ◌<◌, List, [], ◌∷◌, ◌++◌, length, get_or, arith, sym, ◌∙◌, Some, None, Option, refl, ap, subst, Bool, true, false, suc, length-append, length-set, append-nil, append_assoc, eq-eqb}
+use Rattle.std.specs.Prelude.{slice_get, ℤ, pos, int_lt, if◌then◌else◌, Any, All, filter, ◌==◌}
 use Rattle.std.specs.Int.{int_max}
 use Rattle.std.specs.List.{flat_map}
-use Rattle.std.proofs.lemmas.Int.{ints, clamps}
-use Rattle.std.proofs.lemmas.Bool.{cases_eq}
-use Rattle.std.proofs.lemmas.List.{get_or_append_left, take-append-le, take_at, get_or_default}
+use Rattle.std.proofs.lemmas.Int.{ints}
+use Rattle.std.proofs.lemmas.List.{get_or_append_left, take-append-le, get_or_default}
 use Rattle.std.proofs.lemmas.List.Elements.{filter-append, All-head, All-tail}
 use Rattle.std.proofs.lemmas.List.Quantifiers.{Any-push}
 use Rattle.std.proofs.lemmas.List.Sums.{sum_by-cons}
-use Rattle.std.proofs.lemmas.Option.{slice_get_within, get_or_from_slice_get, slice_get-get_or, same_Some}
+use Rattle.std.proofs.lemmas.Option.{slice_get_within, get_or_from_slice_get, same_Some}
 use Rattle.lop_model.specs.declared.pair.Pair.{Pair}
-use Rattle.lop_model.specs.Matrix.{Matrix, IsWeights, absolute_total, weight}
-use Rattle.lop_model.specs.Bound.{pair_bound}
+use Rattle.lop_model.specs.Matrix.{Matrix, IsWeights}
 use Rattle.lop_model.proofs.MatrixLemmas.{weight_within}
 use Rattle.lop_model.proofs.BoundLemmas.{pair_bound_within}
 use Rattle.lop_core.specs.declared.node.SearchNode.{SearchNode}
@@ -23,7 +21,7 @@ use Rattle.lop_core.specs.declared.journal.Entry.TheVariants.{Take, Report}
 use Rattle.lop_core.specs.Tree.{child, node_at, path_of, is_out, out_count}
 use Rattle.lop_model.specs.Reversed.{reversed}
 use Rattle.lop_core.specs.Machine.{Problem, SearchState, changed, closed, divided, settled, after, IsOutTo, state_bound}
-use Rattle.lop_core.specs.Journal.{replay, room_count, worker_of, entries_of, takes, reports, HasTake, HasReport, MayFollow, IsLawfulJournal}
+use Rattle.lop_core.specs.Journal.{replay, worker_of, entries_of, reports, HasTake, HasReport, MayFollow, IsLawfulJournal}
 use Rattle.lop_core.specs.Core.{CoreFields, HasHistory}
 use Rattle.lop_core.specs.Workers.{fixed_of, IsInRange, StandsStill}
 use Rattle.lop_core.proofs.Lists.{slice_get-append_left, EachFollows-last}

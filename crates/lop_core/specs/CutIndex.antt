@@ -1,5 +1,5 @@
 -- An index of a list of cuts: their numbers, in the order of the cuts.
-use Rattle.std.specs.Prelude.{◌≡◌, ℕ, ◌<◌, ◌≤◌, List, length, slice_index, All, AllPairs, Contains}
+use Rattle.std.specs.Prelude.{◌≡◌, ℕ, ◌<◌, ◌≤◌, List, length, slice_index, take, drop, All, AllPairs, Contains}
 use Rattle.std.specs.declared.cmp.Ordering.{Ordering}
 use Rattle.std.specs.declared.cmp.Ordering.TheVariants.{Less, Greater}
 use Rattle.lop_cuts.specs.declared.kind.CutKind.{CutKind}
@@ -27,3 +27,17 @@ pub record IsGap (cuts : List CutKind) (index : List ℕ) (cut : CutKind) (place
   pub inside : place ≤ length index
   pub less : (k : ℕ) → k < place → cut_order (cut_at cuts (slice_index index k)) cut ≡ Less
   pub greater : (k : ℕ) → place ≤ k → k < length index → cut_order (cut_at cuts (slice_index index k)) cut ≡ Greater
+
+-- the index has the first of the cuts; the fresh ones, which came after them, have an index of their own; and each fresh one has a place where it belongs in the index of the first
+pub record ArePending (cuts : List CutKind) (index fresh places : List ℕ) : Type 0 where
+  pub known : IsCutIndex (take (length index) cuts) index
+  pub later : IsCutIndex (drop (length index) cuts) fresh
+  pub placed : length places ≡ length fresh
+  pub gaps : (j : ℕ) → j < length places → IsGap (take (length index) cuts) index (cut_at (drop (length index) cuts) j) (slice_index places j)
+
+-- so many cuts are within the limit, and the rooms for the cuts, for the fresh ones and for their places
+pub record HavePendingRooms (count cut_places fresh_places place_places : ℕ) : Type 0 where
+  pub few : count ≤ 65536
+  pub for_cuts : 65536 ≤ cut_places
+  pub for_fresh : 65536 ≤ fresh_places
+  pub for_places : 65536 ≤ place_places

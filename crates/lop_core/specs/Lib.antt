@@ -1,4 +1,5 @@
 pub mod Tree
+pub mod Outs
 pub mod Machine
 pub mod Records
 pub mod CutIndex

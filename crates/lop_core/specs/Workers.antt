@@ -8,7 +8,7 @@ use Rattle.lop_core.specs.declared.reply.TakeReply.{TakeReply}
 use Rattle.lop_core.specs.declared.reply.ReportReply.{ReportReply}
 use Rattle.lop_core.specs.Tree.{node_at, path_of}
 use Rattle.lop_core.specs.Machine.{Problem, SearchState, IsOutTo}
-use Rattle.lop_core.specs.Records.{IsRecordBook, record_at, scaled_of}
+use Rattle.lop_core.specs.Records.{IsRecordBook}
 use Rattle.lop_core.specs.Core.{CoreFields, HasHistory, AreRecorded, IsTake, IsReport, IsSoundReport}
 
 -- n, the budget, the start value, and the entries of the matrix row by row, in one list

@@ -92,6 +92,7 @@ fn number_terms(cuts: &mut CutIndex, shown: &LeafRecord, fresh: &mut Vec<Numbere
             },
         );
     }
+    cuts.settle();
     let _count = cuts.len();
 }
 

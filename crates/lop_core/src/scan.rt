@@ -1,57 +1,62 @@
-// Scans over the nodes.
-ghost use Rattle.std.specs.Prelude.{◌≡◌, ℕ, ◌<◌, ◌^◌, length, fold, not, ◌&&◌, int_lt, IfSome, IfNone};
-ghost use Rattle.lop_core.specs.Tree.{is_split};
-ghost use Rattle.lop_core.specs.Machine.{IsLive, live_count, raised_by};
+// What is asked of the nodes that are out, which are few.
+ghost use Rattle.std.specs.Prelude.{◌≡◌, ◌<◌, ◌^◌, ◌≤◌, ◌∷◌, length, fold, All, Contains, IsPermutation, count_by, int_lt, vec_len, vec_capacity};
+ghost use Rattle.std.specs.Int.{int_max};
+ghost use Rattle.std.specs.List.{list_any};
+ghost use Rattle.lop_core.specs.Tree.{node_at};
 
-use crate::node::{SearchNode, Standing};
+use crate::node::SearchNode;
 
-/// Whether the node isn't split and its bound exceeds best.
-fn is_live(node: SearchNode, best: i128) -> bool
-    ensures { result ≡ (not (is_split node.standing) && int_lt best node.bound) }
+/// Whether the bound of one of them exceeds best. O(their number).
+pub fn has_above(nodes: &[SearchNode], outs: &[u32], best: i128) -> bool
+    requires { All (λ k. k < length nodes.now) outs.now }
+    ensures { result ≡ list_any (λ k. int_lt best (node_at nodes.now k).bound) outs.now }
 {
-    match node.standing {
-        Standing::Split(_) => false,
-        Standing::Idle | Standing::Out(_) => node.bound > best,
-    }
-}
-
-/// A live node.
-pub fn first_live(nodes: &[SearchNode], best: i128) -> Option<usize>
-    ensures found { IfSome result (λ node. IsLive nodes.now best node) }
-    ensures none { IfNone result ((node : ℕ) → ¬ (IsLive nodes.now best node)) }
-{
-    for (i, node) in nodes.iter().enumerate() {
-        if is_live(*node, best) {
-            return Some(i);
+    for out in outs {
+        if nodes[*out as usize].bound > best {
+            return true;
         }
     }
-    None
+    false
 }
 
-/// How many nodes are live.
-pub fn count_live(nodes: &[SearchNode], best: i128) -> u32
-    requires { length nodes.now < 2 ^ 32 }
-    ensures { result ≡ live_count nodes.now best }
+/// How many of them have a bound that exceeds best. O(their number).
+pub fn count_above(nodes: &[SearchNode], outs: &[u32], best: i128) -> u32
+    requires inside { All (λ k. k < length nodes.now) outs.now }
+    requires few { length outs.now < 2 ^ 32 }
+    ensures value { result ≡ count_by (λ k. int_lt best (node_at nodes.now k).bound) outs.now }
+    ensures few { result ≤ length outs.now }
 {
     let mut count = 0;
-    for node in nodes {
-        if is_live(*node, best) {
+    for out in outs {
+        if nodes[*out as usize].bound > best {
             count += 1;
         }
     }
     count
 }
 
-/// The greatest of best and of the bounds of the nodes that aren't split.
-pub fn greatest_bound(nodes: &[SearchNode], best: i128) -> i128
-    ensures { result ≡ fold raised_by best nodes.now }
+/// The greatest of a number and of their bounds. O(their number).
+pub fn greatest_bound(nodes: &[SearchNode], outs: &[u32], from: i128) -> i128
+    requires { All (λ k. k < length nodes.now) outs.now }
+    ensures { result ≡ fold (λ top k. int_max top (node_at nodes.now k).bound) from outs.now }
 {
-    let mut top = best;
-    for node in nodes {
-        match node.standing {
-            Standing::Split(_) => {}
-            Standing::Idle | Standing::Out(_) => top = top.max(node.bound),
-        }
+    let mut top = from;
+    for out in outs {
+        top = top.max(nodes[*out as usize].bound);
     }
     top
+}
+
+/// Takes one of them out of the list. O(their number).
+pub fn remove_out(outs: &mut Vec<u32>, node: u32)
+    requires { Contains outs.old.items node }
+    ensures moved { IsPermutation outs.old.items (node ∷ outs.new.items) }
+    ensures room { vec_capacity outs.new ≡ vec_capacity outs.old }
+{
+    for place in 0..outs.len() {
+        if outs[place] == node {
+            let _node = outs.swap_remove(place);
+            return;
+        }
+    }
 }

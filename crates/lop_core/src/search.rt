@@ -9,7 +9,7 @@ ghost use Rattle.lop_leaf.specs.Packing.{packing_bound};
 ghost use Rattle.lop_leaf.specs.Record.{IsMultiplier};
 ghost use Rattle.lop_core.specs.declared.records.NumberedTerm.{NumberedTerm};
 ghost use Rattle.lop_core.specs.Tree.{IsCoveredOnce, node_at, out_count, path_of};
-ghost use Rattle.lop_core.specs.Machine.{IsLive, IsOutTo, live_count, ready_count, state_bound};
+ghost use Rattle.lop_core.specs.Machine.{IsLive, IsReady, IsOutTo, live_count, ready_count, state_bound};
 ghost use Rattle.lop_core.specs.Journal.{HasTake, HasReport, entries_of, AreCounted};
 ghost use Rattle.lop_core.specs.AllOrders.{factorial};
 ghost use Rattle.lop_core.specs.Workers.{IsInRange};
@@ -23,7 +23,7 @@ use crate::path::write_ticket;
 use crate::records::Records;
 use crate::reply::{ReportReply, TakeReply};
 use crate::room::put_last;
-use crate::scan::{count_live, first_live, greatest_bound};
+use crate::scan::{count_above, greatest_bound, has_above, remove_out};
 use crate::settle::{child, either, is_out_to, keep_better, settle};
 use crate::start::root_bound;
 use lop_cuts::Cut;
@@ -43,7 +43,7 @@ pub struct Core {
     nodes: Vec<SearchNode>,
     best: i128,
     evaluated: u32,
-    out: u32,
+    outs: Vec<u32>,
     journal: Vec<Entry>,
     order: Order,
     records: Records,
@@ -51,11 +51,11 @@ pub struct Core {
 }
 
 impl Model for Core {
-    ghost use Rattle.std.specs.Prelude.{◌≡◌, vec_capacity};
+    ghost use Rattle.std.specs.Prelude.{◌≡◌, vec_len, vec_capacity};
     ghost use Rattle.lop_core.specs.Kept.{AreKept, book_of};
     ghost use Rattle.lop_core.specs.Records.{term_room};
     ghost use Rattle.lop_core.specs.Core.{CoreFields, HasHistory, AreRecorded, HasRoom};
-    ghost use Rattle.lop_core.specs.Tree.{out_count};
+    ghost use Rattle.lop_core.specs.Outs.{HasOuts};
     ghost use Rattle.lop_core.specs.Candidates.{HasCandidates};
 
     ghost Value = { CoreFields };
@@ -80,7 +80,7 @@ impl Model for Core {
       journal = c.journal.items;
       order = c.order;
       book = book_of c.records;
-    }) × HasRoom c.budget (vec_capacity c.nodes) (vec_capacity c.journal) (vec_capacity c.records.numbers) (vec_capacity c.records.spans) × (c.out ≡ out_count c.nodes.items) × AreKept c.records × (c.records.term_room ≡ term_room c.budget) × HasCandidates (record { nodes = c.nodes.items; best = c.best; evaluated = c.evaluated }) c.budget c.out c.candidates };
+    }) × HasRoom c.budget (vec_capacity c.nodes) (vec_capacity c.journal) (vec_capacity c.records.numbers) (vec_capacity c.records.spans) × HasOuts c.nodes.items c.budget c.outs.items (vec_capacity c.outs) × AreKept c.records × (c.records.term_room ≡ term_room c.budget) × HasCandidates (record { nodes = c.nodes.items; best = c.best; evaluated = c.evaluated }) c.budget (vec_len c.outs) c.candidates };
 }
 
 impl Core {
@@ -115,7 +115,7 @@ impl Core {
             nodes,
             best,
             evaluated: 0,
-            out: 0,
+            outs: Vec::with_capacity(alloc, budget as usize)?,
             journal: Vec::with_capacity(alloc, places)?,
             order: kept,
             records: Records::prepare(alloc, budget)?,
@@ -125,33 +125,34 @@ impl Core {
 
     /// Hands out the live idle node with the greatest bound, and of several the one with the lowest number. O(log of the
     /// number of live idle nodes), and O(the path and the terms) for the ticket. Where no node is live and idle, O(the
-    /// number of nodes).
+    /// number of nodes that are out).
     pub fn take(&mut self, worker: u32, into: &mut Ticket) -> TakeReply
         requires same_n { into.old.size ≡ self.old.problem.weights.size }
         ensures step { IsTake self.old into.old worker result self.new into.new }
         ensures on_node { OnNode self.old worker result self.new into.new }
     {
         let Some(node) = self.candidates.first_ready(&self.nodes, self.best) else {
-            return match first_live(&self.nodes, self.best) {
-                Some(_) => TakeReply::AllOut,
-                None => TakeReply::Done,
+            return if has_above(&self.nodes, &self.outs, self.best) {
+                TakeReply::AllOut
+            } else {
+                TakeReply::Done
             };
         };
-        if self.evaluated + self.out >= self.budget {
+        if self.evaluated + self.outs.len() as u32 >= self.budget {
             return TakeReply::Spent;
         }
         let index = node as usize;
         self.candidates.remove_top();
         write_ticket(&self.nodes, node, self.best, &self.records, into);
         self.nodes[index].standing = Standing::Out(worker);
-        self.out += 1;
+        put_last(&mut self.outs, node);
         put_last(&mut self.journal, Entry::Take { worker, node });
         TakeReply::Node
     }
 
     /// Takes in what a worker found at a node that is out to it. O(n) and O(the record's terms, each with the log of the
-    /// number of cuts), and O(log of the number of live idle nodes) where the node is split; where best rises, O(the
-    /// number of live idle nodes).
+    /// number of cuts), O(the number of nodes that are out), and O(log of the number of live idle nodes) where the node
+    /// is split. Where best rises, O(the number of live idle nodes); where a cut is new, O(the number of cuts).
     pub fn report(&mut self, worker: u32, found: &Evaluated) -> ReportReply
         requires sound { IsOutTo self.old.state worker found.now.node → IsSoundReport self.old found.now }
         ensures step { IsReport self.old worker found.now result self.new }
@@ -170,7 +171,7 @@ impl Core {
         keep_better(&mut self.best, &mut self.order, value, found.order());
         self.candidates.raise(&self.nodes, before, self.best);
         self.evaluated += 1;
-        self.out -= 1;
+        remove_out(&mut self.outs, node);
         let room = self.records.offer(index, found.shown());
         put_last(
             &mut self.journal,
@@ -220,8 +221,21 @@ impl Core {
         &self.order
     }
 
+    /// The greatest of best and of the bounds of the live idle nodes. O(1).
+    fn top_bound(&self) -> i128
+        ensures at_least { self.now.state.best ≤ℤ result }
+        ensures greatest { (node : ℕ) → IsReady self.now.state.nodes self.now.state.best node → (node_at self.now.state.nodes node).bound ≤ℤ result }
+        ensures within { result ≤ℤ state_bound self.now.state }
+    {
+        match self.candidates.first_ready(&self.nodes, self.best) {
+            Some(node) => self.nodes[node as usize].bound,
+            None => self.best,
+        }
+    }
+
     /// The greatest of best and of the bounds of the nodes that aren't split: at most the pair bound of the weights,
-    /// and at most their packing bound once a node was evaluated or where none is live. O(the number of nodes).
+    /// and at most their packing bound once a node was evaluated or where none is live. O(the number of nodes that are
+    /// out).
     pub fn bound(&self) -> i128
         ensures value { result ≡ state_bound self.now.state }
         ensures from_root { result ≤ℤ pair_bound self.now.problem.weights [] }
@@ -232,7 +246,8 @@ impl Core {
         ensures range { IsInRange result }
     {
         let _n = self.weights.n();
-        greatest_bound(&self.nodes, self.best)
+        let top = self.top_bound();
+        greatest_bound(&self.nodes, &self.outs, top)
     }
 
     /// How many nodes were evaluated.
@@ -253,11 +268,12 @@ impl Core {
         self.budget
     }
 
-    /// How many nodes are live: not split, with a bound above best. O(the number of nodes).
+    /// How many nodes are live: not split, with a bound above best. O(the number of nodes that are out).
     pub fn live(&self) -> u32
         ensures { result ≡ live_count self.now.state.nodes self.now.state.best }
     {
-        count_live(&self.nodes, self.best)
+        let idle = self.candidates.len() as u32;
+        idle + count_above(&self.nodes, &self.outs, self.best)
     }
 
     /// How many of the live nodes are idle. O(1).

@@ -1,4 +1,4 @@
-ghost use Rattle.std.specs.Prelude.{◌≡◌, IsTrue, length};
+ghost use Rattle.std.specs.Prelude.{◌≡◌, ◌<◌, IsTrue, IfOk, length};
 ghost use Rattle.lop_model.specs.Order.{IsOrder};
 ghost use Rattle.lop_leaf.specs.Sound.{IsSoundTicket, IsSoundResult};
 
@@ -8,7 +8,7 @@ use lop_fix::Fixings;
 use lop_leaf::{Evaluated, LeafRecord, PairRoom, Ticket, packing};
 use lop_model::{Order, Pair, Weights};
 use lop_value::value;
-use std::alloc::Global;
+use std::alloc::{AllocError, Global};
 use std::test::Fail;
 
 // A small judge: the packing bound under the path with the record that shows it, the first undecided pair, and the
@@ -44,37 +44,75 @@ fn judge(
     true
 }
 
+// What a worker and its judge work in.
+#[derive(Drop)]
+struct Rooms {
+    ticket: Ticket,
+    fixings: Fixings,
+    room: PairRoom,
+    shown: LeafRecord,
+    into: Evaluated,
+}
+
+// Rooms for n objects.
+fn rooms_of(alloc: Global, n: u16) -> Result<Rooms, AllocError>
+    ensures ticket { IfOk result (λ r. r.ticket.size ≡ n) }
+    ensures fixings { IfOk result (λ r. r.fixings.size ≡ n) }
+    ensures room { IfOk result (λ r. r.room ≡ n) }
+    ensures into { IfOk result (λ r. length r.into.order ≡ n) }
+{
+    Ok(Rooms {
+        ticket: Ticket::new(alloc, n)?,
+        fixings: Fixings::new(alloc, n)?,
+        room: PairRoom::new(alloc, n)?,
+        shown: LeafRecord::new(alloc)?,
+        into: Evaluated::new(alloc, n)?,
+    })
+}
+
 // Takes a node as a worker, judges it and reports it: the node, and what the report answered.
 fn evaluate(
+    core: &mut Core,
+    worker: u32,
+    order: &Order,
+    rooms: &mut Rooms,
+) -> Option<(u32, ReportReply)>
+    requires ticket { rooms.old.ticket.size ≡ core.old.problem.weights.size }
+    requires fixings { rooms.old.fixings.size ≡ core.old.problem.weights.size }
+    requires room { rooms.old.room ≡ core.old.problem.weights.size }
+    requires into { length rooms.old.into.order ≡ core.old.problem.weights.size }
+    requires order { IsOrder core.old.problem.weights.size order.now }
+{
+    let TakeReply::Node = core.take(worker, &mut rooms.ticket) else {
+        return None;
+    };
+    if !judge(
+        core.weights(),
+        &rooms.ticket,
+        order,
+        &mut rooms.fixings,
+        &mut rooms.room,
+        &mut rooms.shown,
+        &mut rooms.into,
+    ) {
+        return None;
+    }
+    Some((rooms.ticket.node(), core.report(worker, &rooms.into)))
+}
+
+// The same, in rooms of its own.
+fn evaluate_one(
     alloc: Global,
     core: &mut Core,
     worker: u32,
     order: &Order,
 ) -> Result<Option<(u32, ReportReply)>, Fail> {
     let n = core.weights().n();
-    let mut ticket = Ticket::new(alloc, n)?;
-    let mut fixings = Fixings::new(alloc, n)?;
-    let mut room = PairRoom::new(alloc, n)?;
-    let mut shown = LeafRecord::new(alloc)?;
-    let mut into = Evaluated::new(alloc, n)?;
     if order.n() != n {
         return Ok(None);
     }
-    let TakeReply::Node = core.take(worker, &mut ticket) else {
-        return Ok(None);
-    };
-    if !judge(
-        core.weights(),
-        &ticket,
-        order,
-        &mut fixings,
-        &mut room,
-        &mut shown,
-        &mut into,
-    ) {
-        return Ok(None);
-    }
-    Ok(Some((ticket.node(), core.report(worker, &into))))
+    let mut rooms = rooms_of(alloc, n)?;
+    Ok(evaluate(core, worker, order, &mut rooms))
 }
 
 // What a take answers, with a ticket that is dropped.
@@ -118,21 +156,37 @@ fn three_fence(alloc: Global, budget: u32) -> Result<Option<(Core, Order)>, Fail
     }
 }
 
+// Best, the bound, and how many nodes were evaluated and how many are live and idle.
+fn figures(core: &Core) -> (i128, i128, u32, u32) {
+    (
+        core.best(),
+        core.bound(),
+        core.evaluated(),
+        core.idle_live(),
+    )
+}
+
+// What the next node's report answers, and what the take after it.
+fn report_and_take(
+    alloc: Global,
+    core: &mut Core,
+    order: &Order,
+) -> Result<(Option<(u32, ReportReply)>, TakeReply), Fail> {
+    let reply = evaluate_one(alloc, core, 0, order)?;
+    Ok((reply, take(alloc, core, 0)?))
+}
+
 // One packing step closes the search of three sectors.
 #[test]
 fn a_closed_search(rt: HostRuntime) -> Result<(), Fail> {
     let alloc = rt.alloc();
-    let mut core = three_sectors(alloc, 3)?.expect(&rt, "core");
     let order = Order::first(alloc, 3)?;
+    let mut core = three_sectors(alloc, 3)?.expect(&rt, "core");
     assert_eq!(rt;
-        evaluate(alloc, &mut core, 0, &order)?,
-        Some((0, ReportReply::Closed))
+        report_and_take(alloc, &mut core, &order)?,
+        (Some((0, ReportReply::Closed)), TakeReply::Done)
     );
-    assert_eq!(rt; take(alloc, &mut core, 0)?, TakeReply::Done);
-    assert_eq!(rt;
-        (core.best(), core.bound(), core.evaluated(), core.cuts()),
-        (10, 10, 1, 1)
-    );
+    assert_eq!(rt; (figures(&core), core.cuts()), ((10, 10, 1, 0), 1));
     Ok(())
 }
 
@@ -143,20 +197,10 @@ fn three_reports(
     order: &Order,
 ) -> Result<[Option<(u32, ReportReply)>; 3], Fail> {
     Ok([
-        evaluate(alloc, core, 0, order)?,
-        evaluate(alloc, core, 1, order)?,
-        evaluate(alloc, core, 2, order)?,
+        evaluate_one(alloc, core, 0, order)?,
+        evaluate_one(alloc, core, 1, order)?,
+        evaluate_one(alloc, core, 2, order)?,
     ])
-}
-
-// Best, the bound, how many nodes were evaluated, and how many are live and idle.
-fn figures(core: &Core) -> (i128, i128, u32, u32) {
-    (
-        core.best(),
-        core.bound(),
-        core.evaluated(),
-        core.idle_live(),
-    )
 }
 
 // The root of a three-fence has nothing to pack. It is split on objects 0 and 1, and one step takes 2 in each child.
@@ -164,7 +208,6 @@ fn figures(core: &Core) -> (i128, i128, u32, u32) {
 fn a_spent_search(rt: HostRuntime) -> Result<(), Fail> {
     let alloc = rt.alloc();
     let (mut core, order) = three_fence(alloc, 3)?.expect(&rt, "core");
-    assert_eq!(rt; figures(&core), (14, 18, 0, 1));
     assert_eq!(rt;
         three_reports(alloc, &mut core, &order)?,
         [
@@ -178,27 +221,42 @@ fn a_spent_search(rt: HostRuntime) -> Result<(), Fail> {
     Ok(())
 }
 
+// A node's bound, scale and number of terms, and its one term.
+fn row(core: &Core, node: u32) -> ((i128, u32, u32), Option<(u32, u64)>)
+    requires { node < length core.now.state.nodes }
+{
+    let view = core.node(node);
+    let term = if view.terms == 1 {
+        Some(core.term(node, 0))
+    } else {
+        None
+    };
+    ((view.bound, view.scale, view.terms), term)
+}
+
+// The rows of the first child of the root and of its own first child, and whether the one cut is this dicycle.
+fn one_dicycle(
+    core: &Core,
+    objects: [u16; 3],
+) -> Option<[((i128, u32, u32), Option<(u32, u64)>); 2]> {
+    if core.nodes() != 5 || core.cuts() != 1 {
+        return None;
+    }
+    if *core.cut(0).kind() != CutKind::Dicycle(objects) {
+        return None;
+    }
+    Some([row(core, 1), row(core, 3)])
+}
+
 // What the readers say of the record of the first child of that root, which its own first child has too.
 #[test]
 fn a_record_of_one_dicycle(rt: HostRuntime) -> Result<(), Fail> {
     let alloc = rt.alloc();
     let (mut core, order) = three_fence(alloc, 3)?.expect(&rt, "core");
-    let _root = evaluate(alloc, &mut core, 0, &order)?;
-    let _child = evaluate(alloc, &mut core, 0, &order)?;
-    assert_eq!(rt; (core.nodes(), core.cuts()), (5, 1));
-    if core.nodes() == 5 && core.cuts() == 1 {
-        let cut = core.cut(0);
-        assert!(rt; *cut.kind() == CutKind::Dicycle([0, 1, 4]));
-        let (child, grandchild) = (core.node(1), core.node(3));
-        assert_eq!(rt; (child.bound, child.scale, child.terms), (16, 1, 1));
-        assert_eq!(rt;
-            (grandchild.bound, grandchild.scale, grandchild.terms),
-            (16, 1, 1)
-        );
-        if child.terms == 1 {
-            assert_eq!(rt; core.term(1, 0), (0, 2));
-        }
-    }
+    let _root = evaluate_one(alloc, &mut core, 0, &order)?;
+    let _child = evaluate_one(alloc, &mut core, 0, &order)?;
+    let own = ((16, 1, 1), Some((0, 2)));
+    assert_eq!(rt; one_dicycle(&core, [0, 1, 4]), Some([own, own]));
     Ok(())
 }
 
@@ -207,39 +265,37 @@ fn two_takes(alloc: Global, core: &mut Core, worker: u32) -> Result<[TakeReply; 
     Ok([take(alloc, core, worker)?, take(alloc, core, worker)?])
 }
 
+// Whether the journal is a take of the root by worker 4; the nodes, the live ones and the budget; and the root.
+fn root_row(core: &Core) -> Option<(bool, (u32, u32, u32), NodeView)> {
+    if core.nodes() == 0 {
+        return None;
+    }
+    let taken = core.journal() == [Entry::Take { worker: 4, node: 0 }].as_slice();
+    Some((
+        taken,
+        (core.nodes(), core.live(), core.budget()),
+        core.node(0),
+    ))
+}
+
+// The root with the pair bound of 12, as the readers see it while it is out to a worker: nothing else is to be had.
 #[test]
-fn all_out(rt: HostRuntime) -> Result<(), Fail> {
+fn a_root_that_is_out(rt: HostRuntime) -> Result<(), Fail> {
     let alloc = rt.alloc();
     let mut core = three_sectors(alloc, 3)?.expect(&rt, "core");
     assert_eq!(rt;
         two_takes(alloc, &mut core, 4)?,
         [TakeReply::Node, TakeReply::AllOut]
     );
-    Ok(())
-}
-
-// The root with the pair bound of 12, as the readers see it while it is out to a worker.
-#[test]
-fn a_root_that_is_out(rt: HostRuntime) -> Result<(), Fail> {
-    let alloc = rt.alloc();
-    let mut core = three_sectors(alloc, 3)?.expect(&rt, "core");
-    assert_eq!(rt; take(alloc, &mut core, 4)?, TakeReply::Node);
-    assert_eq!(rt;
-        core.journal(),
-        [Entry::Take { worker: 4, node: 0 }].as_slice()
-    );
-    assert_eq!(rt; (core.nodes(), core.live(), core.budget()), (1, 1, 3));
+    let root = NodeView {
+        parent: 0,
+        pair: Pair::default(),
+        bound: 12,
+        standing: Standing::Out(4),
+        scale: 1,
+        terms: 0,
+    };
+    assert_eq!(rt; root_row(&core), Some((true, (1, 1, 3), root)));
     assert_eq!(rt; value(core.weights(), core.best_order()), 10);
-    if core.nodes() > 0 {
-        let root = NodeView {
-            parent: 0,
-            pair: Pair::default(),
-            bound: 12,
-            standing: Standing::Out(4),
-            scale: 1,
-            terms: 0,
-        };
-        assert_eq!(rt; core.node(0), root);
-    }
     Ok(())
 }

@@ -12,6 +12,7 @@ pub mod InRangeLemmas
 pub mod FaultUniqueLemmas
 pub mod LagrangianLemmas
 pub mod PointLemmas
+pub mod GainLemmas
 pub mod ChargeLemmas
 pub mod ClosureUnique
 pub mod CertifiedPaths

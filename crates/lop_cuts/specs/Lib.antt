@@ -4,6 +4,7 @@ pub mod Fault
 pub mod Lagrangian
 pub mod Point
 pub mod CutList
+pub mod Separation
 pub mod Certifying
 pub mod Charges
 pub mod CutTests

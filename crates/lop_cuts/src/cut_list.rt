@@ -1,7 +1,8 @@
-ghost use Rattle.std.specs.Prelude.{◌≡◌, ◌<◌, ◌+◌, ◌^◌, [], ◌∷◌, ◌++◌, length, slice_index_or, IfOk};
-ghost use Rattle.lop_cuts.specs.Kind.{IsCut};
+ghost use Rattle.std.specs.Prelude.{◌≡◌, ◌↔◌, ◌<◌, ◌≤◌, ◌+◌, ◌^◌, [], ◌∷◌, ◌++◌, length, drop, slice_index_or, Contains, IsTrue, IfOk};
+ghost use Rattle.lop_cuts.specs.Kind.{IsCut, FitsCut};
+ghost use Rattle.lop_cuts.specs.Separation.{GainsViolated, IsTaken};
 
-use crate::Cut;
+use crate::{Cut, Point, is_violated};
 use std::alloc::{AllocError, Global};
 use std::marker::Model;
 
@@ -74,5 +75,43 @@ impl CutList {
         ensures { self.new ≡ record { cuts = self.old.cuts ++ cut ∷ []; room = self.old.room } }
     {
         self.cuts.push(cut).unwrap();
+    }
+
+    /// Whether the cut is one of those from `start` on. It takes a comparison with each of them.
+    fn stands(&self, cut: &Cut, start: usize) -> bool
+        ensures { IsTrue result ↔ Contains (drop start self.now.cuts) cut.now }
+    {
+        for i in start..self.cuts.len() {
+            if self.cuts[i] == *cut {
+                return true;
+            }
+        }
+        false
+    }
+
+    /// Whether an offered cut is taken. It takes O(arcs), and a comparison with each cut from `start` on.
+    fn takes(&self, point: &Point, cut: &Cut, start: usize, until: usize) -> bool
+        requires { FitsCut point.now.size cut.now }
+        ensures { IsTrue result ↔ IsTaken point.now self.now start until cut.now }
+    {
+        self.cuts.len() < until && is_violated(point, cut) && !self.stands(cut, start)
+    }
+
+    /// Appends the cut, if there are fewer than `until` cuts, the point violates it, and it isn't one of those from
+    /// `start` on. It takes O(arcs), for a ladder O(arcs²), a comparison with each of those, and no memory.
+    pub fn offer(&mut self, point: &Point, cut: Cut, start: usize, until: usize)
+        requires fits { FitsCut point.now.size cut }
+        requires room { until ≤ self.old.room }
+        requires within { length self.old.cuts ≤ until }
+        ensures taken { IsTaken point.now self.old start until cut → self.new ≡ record { cuts = self.old.cuts ++ cut ∷ []; room = self.old.room } }
+        ensures left { ¬ IsTaken point.now self.old start until cut → self.new ≡ self.old }
+        ensures gains { GainsViolated point.now self.old self.new }
+        ensures within { length self.new.cuts ≤ until }
+        ensures room { self.new.room ≡ self.old.room }
+    {
+        if self.takes(point, &cut, start, until) {
+            let _kind = cut.kind();
+            self.put(cut);
+        }
     }
 }

@@ -1,5 +1,5 @@
 //! The tests of a cut's objects and cycles.
-ghost use Rattle.std.specs.Prelude.{◌≡◌, ◌<◌, ◌≤◌, ◌↔◌, ℕ, length, map, nat_eq, All, Any, IsTrue, MatchBool, OnOk, IfErr};
+ghost use Rattle.std.specs.Prelude.{◌≡◌, ◌<◌, ◌≤◌, ◌↔◌, length, map, nat_eq, All, Any, IsTrue, MatchBool, OnOk, IfErr};
 ghost use Rattle.std.specs.List.{IsDistinct};
 ghost use Rattle.lop_cuts.specs.Arcs.{cycle_arcs, cycles_with};
 ghost use Rattle.lop_cuts.specs.Kind.{objects_of};

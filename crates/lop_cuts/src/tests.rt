@@ -184,3 +184,21 @@ fn a_list_of_cuts_fills_its_room(rt: HostRuntime) -> Result<(), Fail> {
     assert_eq!(rt; (list.len(), list.free()), (0, 2));
     Ok(())
 }
+
+#[test]
+fn an_offered_cut_is_taken_once(rt: HostRuntime) -> Result<(), Fail> {
+    let mut point = Point::new(rt.alloc(), 3)?;
+    let mut list = CutList::new(rt.alloc(), 2)?;
+    list.offer(&point, Cut::dicycle(0, 1, 2, 3)?, 0, 2);
+    assert_eq!(rt; list.len(), 0);
+    point.set(0, 1, Point::ONE);
+    point.set(1, 2, Point::ONE);
+    point.set(2, 0, Point::ONE);
+    list.offer(&point, Cut::dicycle(0, 1, 2, 3)?, 0, 2);
+    list.offer(&point, Cut::dicycle(0, 1, 2, 3)?, 0, 2);
+    assert_eq!(rt; list.len(), 1);
+    list.offer(&point, Cut::dicycle(0, 1, 2, 3)?, 1, 2);
+    list.offer(&point, Cut::dicycle(0, 1, 2, 3)?, 2, 2);
+    assert_eq!(rt; list.len(), 2);
+    Ok(())
+}

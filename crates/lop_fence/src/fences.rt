@@ -2,10 +2,9 @@ ghost use Rattle.std.specs.Prelude.{◌≡◌, ◌+◌, ◌<◌, ◌≤◌, leng
 ghost use Rattle.std.specs.List.{AllWithin};
 ghost use Rattle.lop_cuts.specs.Kind.{IsCut, FitsCut};
 ghost use Rattle.lop_cuts.specs.Point.{IsViolated};
-ghost use Rattle.lop_fence.specs.Separation.{GainsViolated};
+ghost use Rattle.lop_cuts.specs.Separation.{GainsViolated};
 
 use crate::growth::Growth;
-use crate::offer::offer;
 use crate::work::Work;
 use lop_cuts::{CutList, Point};
 
@@ -18,7 +17,7 @@ fn offer_fence(point: &Point, posts: &Growth, list: &mut CutList, from: usize, u
     ensures room { list.new.room ≡ list.old.room }
 {
     if let Some(cut) = posts.fence(point.n()) {
-        offer(point, cut, list, from, until);
+        list.offer(point, cut, from, until);
     }
 }
 

@@ -3,7 +3,6 @@
 
 mod fences;
 mod growth;
-mod offer;
 mod work;
 
 pub use fences::violated_fences;

@@ -1,5 +1,5 @@
 use super::*;
-use lop_cuts::{CutKind, CutList, Point};
+use lop_cuts::{CutList, Point};
 use std::test::Fail;
 
 #[test]

@@ -1,7 +1,6 @@
 -- The fixings that a table stands for.
-use Rattle.std.proofs.Common.{◌≡◌, ◌≢◌, ℕ, ◌+◌, ◌*◌, ◌<◌, ◌≤◌, Bool, true, false, eqb, ltb, ◌&&◌, ◌||◌, List, [], ◌∷◌, ◌++◌, append-nil, zero, suc, map, length, take, drop, get_or, refl, sym, ◌∙◌, ap, subst, inl, inr, ◌⊎◌, arith}
+use Rattle.std.proofs.Common.{◌≡◌, ◌≢◌, ℕ, ◌*◌, ◌<◌, ◌≤◌, Bool, true, false, eqb, ◌&&◌, ◌||◌, List, [], ◌∷◌, ◌++◌, append-nil, length, take, drop, get_or, refl, sym, ◌∙◌, ap, subst, inl, inr, arith}
 use Rattle.std.specs.Prelude.{IsTrue}
-use Rattle.std.specs.List.{filter, flat_map, range_with_len}
 use Rattle.std.proofs.lemmas.List.{drop_all, take_all}
 use Rattle.std.proofs.lemmas.Bool.{cases_lt}
 use Rattle.std.proofs.lemmas.Bool.Decides.{nat_tests}
@@ -12,36 +11,14 @@ use Rattle.lop_model.specs.Related.{pairs_of}
 use Rattle.lop_model.specs.Related.{pair}
 use Rattle.lop_fix.specs.PartialOrder.{FixedPairs, IsPartialOrder}
 use Rattle.lop_model.proofs.RisingPairs.{pairs_of-rising}
-use Rattle.lop_model.proofs.RelatedPairs.{has_pair-pairs_of}
+use Rattle.lop_model.proofs.RelatedPairs.{pairs_of-none, has_pair-outside}
+pub use Rattle.lop_model.proofs.RelatedPairs.{has_pair-inside, has_pair-below}
 use Rattle.lop_fix.proofs.TableLemmas.{at-zeros}
 use Rattle.lop_model.proofs.ClosureLemmas.{closed_more, no_cycle_more, IsClosure-itself, IsClosure-none, no_chain}
 
 pub false_from_not : (b : Bool) → (IsTrue b → ⊥) → b ≡ false
 false_from_not true h = absurd (h refl)
 false_from_not false h = refl
-
-both_below : (x y n : ℕ) (r : Bool) → x < n → y < n → ((ltb x n && ltb y n) && r) ≡ r
-both_below x y n r l m = grind (arith, nat_tests)
-
-one_past : (x y n : ℕ) (r : Bool) → (n ≤ x) ⊎ (n ≤ y) → ((ltb x n && ltb y n) && r) ≡ false
-one_past x y n r h = grind (arith, nat_tests)
-
-first_below : (x y n : ℕ) (r : Bool) → IsTrue ((ltb x n && ltb y n) && r) → x < n
-first_below x y n r t = grind (arith, nat_tests)
-
-second_below : (x y n : ℕ) (r : Bool) → IsTrue ((ltb x n && ltb y n) && r) → y < n
-second_below x y n r t = grind (arith, nat_tests)
-
-pub has_pair-inside : (n : ℕ) (r : ℕ → ℕ → Bool) (x y : ℕ) → x < n → y < n → has_pair (pairs_of n r) x y ≡ r x y
-has_pair-inside n r x y l m = has_pair-pairs_of n r x y ∙ both_below x y n (r x y) l m
-
-has_pair-outside : (n : ℕ) (r : ℕ → ℕ → Bool) (x y : ℕ) → (n ≤ x) ⊎ (n ≤ y) → has_pair (pairs_of n r) x y ≡ false
-has_pair-outside n r x y h = has_pair-pairs_of n r x y ∙ one_past x y n (r x y) h
-
-pub has_pair-below : (n : ℕ) (r : ℕ → ℕ → Bool) (x y : ℕ) → IsTrue (has_pair (pairs_of n r) x y) → (x < n) × (y < n)
-has_pair-below n r x y t =
-    let u = sym (has_pair-pairs_of n r x y) ∙ t in
-    (first_below x y n (r x y) u, second_below x y n (r x y) u)
 
 row_past : (x y a b n : ℕ) (s : Bool) → n ≤ x → a < n → false ≡ (false || ((eqb x a || false) && s))
 row_past x y a b n s h l = grind (arith, nat_tests)
@@ -83,19 +60,6 @@ module _ (n : ℕ) (old new : List ℕ) (a b : ℕ) (was : IsClosedTable n old) 
   }
 
 -- ---- the table with nothing in it
-
-filter-none : (r : ℕ → Bool) (c k : ℕ) → ((b : ℕ) → b < c + k → r b ≡ false) → filter r (range_with_len c k) ≡ []
-filter-none r c zero h = refl
-filter-none r c (suc k) h = rw (h c (omega arith)) (filter-none r (c + 1) k (λ b l. h b (omega arith)))
-
-flat_map-none : (f : ℕ → List Pair) (c k : ℕ) → ((a : ℕ) → a < c + k → f a ≡ []) → flat_map f (range_with_len c k) ≡ []
-flat_map-none f c zero h = refl
-flat_map-none f c (suc k) h = rw (h c (omega arith)) (flat_map-none f (c + 1) k (λ a l. h a (omega arith)))
-
-pub pairs_of-none : (n : ℕ) (r : ℕ → ℕ → Bool) → ((a b : ℕ) → a < n → b < n → r a b ≡ false) → pairs_of n r ≡ []
-pairs_of-none n r h =
-    flat_map-none (λ a. map (pair a) (filter (r a) (range_with_len 0 n))) 0 n
-    (λ a l. ap (map (pair a)) (filter-none (r a) 0 n (λ b m. h a b (omega arith) (omega arith))))
 
 pub none-fixed : (n : ℕ) (t : List ℕ) → ((k : ℕ) → k < n * row_words n → get_or t k 0 ≡ 0) → pairs_of n (at t n) ≡ []
 none-fixed n t zeros = pairs_of-none n (at t n) (λ a b l m. at-zeros t n a b zeros l m)

@@ -1,10 +1,11 @@
 -- The words and bits of a table.
-use Rattle.std.proofs.Common.{◌≡◌, ◌≢◌, ℕ, ◌+◌, ◌*◌, ◌/◌, ◌%◌, ◌^◌, ◌<◌, Bool, true, false, cond, eqb, ltb, max, ◌&&◌, ◌||◌, List, length, get_or, set, inl, inr, refl, sym, ◌∙◌, ap, subst, arith}
+use Rattle.std.proofs.Common.{◌≡◌, ◌≢◌, ℕ, ◌+◌, ◌-◌, ◌*◌, ◌/◌, ◌%◌, ◌^◌, ◌<◌, ◌≤◌, Bool, true, false, cond, eqb, max, ◌&&◌, ◌||◌, List, ◌++◌, length, take, drop, get_or, set, inl, inr, refl, sym, ◌∙◌, ap, subst, arith}
 use Rattle.std.specs.Int.{bit_at, w64}
 use Rattle.std.specs.Prelude.{bit_or}
-use Rattle.std.proofs.lemmas.Bool.{cases_eq}
+use Rattle.std.proofs.lemmas.Bool.{cases_eq, cases_lt}
 use Rattle.std.proofs.lemmas.Bool.Decides.{nat_tests}
-use Rattle.std.proofs.lemmas.List.{get_or-set_same, get_or-set_other}
+use Rattle.std.proofs.lemmas.List.{get_or-set_same, get_or-set_other, get_or_append_left, get_or-append_right, get_or-take, get_or-drop, length-append, length-take, length-drop, take-take, take-append-drop, drop-drop, drop-append-le, append_assoc}
+use Rattle.std.proofs.Math.Nat.{mul-le-mul_right}
 use Rattle.std.proofs.lemmas.Nat.{mul-add-lt, same_from_place}
 use Rattle.std.proofs.lemmas.Nat.Bits.{bit_at_or, bit_at-lt, bit_at-zero, bit_at_set_same, bit_at_set_other}
 use Rattle.lop_fix.specs.Table.{row_words, word, at, JoinsRow}
@@ -81,34 +82,132 @@ at-set t n r c x y whole row column m =
 
 -- ---- a row is joined
 
--- row into of cur has been joined with row from of old in the words below k
-abbrev pub JoinedTo : List ℕ → List ℕ → ℕ → ℕ → ℕ → ℕ → ℕ → Type 0
-JoinedTo old cur n w into from k = (x z : ℕ) → x < n → z < w → word cur w x z ≡ cond (eqb x into && ltb z k) (bit_or (word old w x z) (word old w from z)) (word old w x z)
+-- row into of new is that of old joined with row from of old, and the other rows are as they were
+abbrev pub IsJoined : List ℕ → List ℕ → ℕ → ℕ → ℕ → ℕ → Type 0
+IsJoined old new n w into from = (x z : ℕ) → x < n → z < w → word new w x z ≡ cond (eqb x into) (bit_or (word old w x z) (word old w from z)) (word old w x z)
 
-join_step : (x z into k v o f : ℕ) → (x ≡ into → z ≡ k → v ≡ f) → cond (eqb x into && eqb z k) v (cond (eqb x into && ltb z k) f o) ≡ cond (eqb x into && ltb z (k + 1)) f o
-join_step x z into k v o f same = grind (arith, nat_tests)
+place_before : (a w z b : ℕ) → a < b → z < w → a * w + z < b * w
+place_before a w z b l m = omega (arith, mul-add-lt a w z b l m)
 
-not_yet : (x into k o f : ℕ) → cond (eqb x into && ltb k k) f o ≡ o
-not_yet x into k o f = grind (arith, nat_tests)
+chosen : (x into : ℕ) (v o : ℕ) → x ≡ into → v ≡ cond (eqb x into) v o
+chosen x into v o e = grind (arith, nat_tests)
 
-other_row : (from into z k o f : ℕ) → into ≢ from → cond (eqb from into && ltb z k) f o ≡ o
-other_row from into z k o f ne = grind (arith, nat_tests)
+passed : (x into : ℕ) (v o : ℕ) → x ≢ into → o ≡ cond (eqb x into) v o
+passed x into v o ne = grind (arith, nat_tests)
 
-pub joined_more : (old cur : List ℕ) (n w into from k : ℕ) → into < n → from < n → k < w → into ≢ from → length cur ≡ n * w → JoinedTo old cur n w into from k → JoinedTo old (set cur (into * w + k) (bit_or (word cur w into k) (word cur w from k))) n w into from (k + 1)
-joined_more old cur n w into from k row other column differ whole joined x z l m =
-    let v = bit_or (word cur w into k) (word cur w from k) in
-    let o = word old w x z in
-    let f = bit_or (word old w x z) (word old w from z) in
-    let mine : word cur w into k ≡ word old w into k = joined into k row column ∙ not_yet into into k (word old w into k) (bit_or (word old w into k) (word old w from k)) in
-    let theirs : word cur w from k ≡ word old w from k = joined from k other column ∙ other_row from into k k (word old w from k) (bit_or (word old w from k) (word old w from k)) differ in
-    word-set cur n w into k x z v whole row column m
-    ∙ ap (λ q. cond (eqb x into && eqb z k) v q) (joined x z l m)
-    ∙ join_step x z into k v o f (λ e g. ap (λ q. bit_or q (word cur w from k)) mine ∙ ap (λ q. bit_or (word old w into k) q) theirs ∙ ap (λ q. bit_or (word old w q k) (word old w from k)) (sym e) ∙ ap (λ q. bit_or (word old w x q) (word old w from q)) (sym g))
+module _ (old row : List ℕ) (n w into from : ℕ) (whole : length old ≡ n * w) (within : into < n) (long : length row ≡ w) where
+  abbrev first_rows : List ℕ
+  first_rows = take (into * w) old
 
-joined_bit : (x into z w : ℕ) (o f : Bool) → z < w → cond (eqb x into && ltb z w) (o || f) o ≡ (o || (eqb x into && f))
-joined_bit x into z w o f l = grind (arith, nat_tests)
+  abbrev last_rows : List ℕ
+  last_rows = drop (into * w + w) old
 
-pub JoinsRow-all : (old new : List ℕ) (n into from : ℕ) → length new ≡ length old → JoinedTo old new n (row_words n) into from (row_words n) → JoinsRow old new n into from
+  front_len : (z : ℕ) → z < w → length first_rows ≡ into * w
+  front_len z lz = omega (arith, length-take (into * w) old, place_before into w z n within lz)
+
+  row_there : (x z : ℕ) → z < w → x ≡ into → word (first_rows ++ (row ++ last_rows)) w x z ≡ get_or row z 0
+  row_there x z lz same =
+      ap (λ k. word (first_rows ++ (row ++ last_rows)) w k z) same
+      ∙ get_or-append_right first_rows (row ++ last_rows) (into * w) (into * w + z) 0 (front_len z lz) (omega arith)
+      ∙ ap (λ k. get_or (row ++ last_rows) k 0) (omega arith)
+      ∙ get_or_append_left row last_rows 0 z (omega arith)
+
+  row_before : (x z : ℕ) → z < w → x < into → word (first_rows ++ (row ++ last_rows)) w x z ≡ word old w x z
+  row_before x z lz before =
+      let place : x * w + z < into * w = place_before x w z into before lz in
+      get_or_append_left first_rows (row ++ last_rows) 0 (x * w + z) (omega (arith, front_len z lz))
+      ∙ get_or-take (into * w) old (x * w + z) 0 place
+
+  row_after : (x z : ℕ) → z < w → into < x → word (first_rows ++ (row ++ last_rows)) w x z ≡ word old w x z
+  row_after x z lz after =
+      let last : into * w + (w - 1) < x * w = place_before into w (w - 1) x after (omega arith) in
+      get_or-append_right first_rows (row ++ last_rows) (into * w) (x * w + z) 0 (front_len z lz) (omega arith)
+      ∙ get_or-append_right row last_rows w (x * w + z - into * w) 0 long (omega arith)
+      ∙ get_or-drop (into * w + w) old (x * w + z - into * w - w) 0
+      ∙ ap (λ k. get_or old k 0) (omega arith)
+
+  pub joined_length : length (first_rows ++ (row ++ last_rows)) ≡ length old
+  joined_length =
+      let least : (into + 1) * w ≤ n * w = mul-le-mul_right w (omega arith) in
+      let one_more : (into + 1) * w ≡ into * w + w = omega arith in
+      omega (arith, length-append first_rows (row ++ last_rows), length-append row last_rows, length-take (into * w) old, length-drop (into * w + w) old)
+
+  pub joined_row : ((z : ℕ) → z < w → get_or row z 0 ≡ bit_or (word old w into z) (word old w from z)) → IsJoined old (first_rows ++ (row ++ last_rows)) n w into from
+  joined_row each x z lx lz =
+      let v = bit_or (word old w x z) (word old w from z) in
+      elim (cases_eq x into) [
+        | inl same ↦ row_there x z lz same ∙ each z lz ∙ ap (λ k. bit_or (word old w k z) (word old w from z)) (sym same) ∙ chosen x into v (word old w x z) same
+        | inr other ↦ elim (cases_lt x into) [
+          | inl before ↦ row_before x z lz before ∙ passed x into v (word old w x z) other
+          | inr after ↦ row_after x z lz (omega arith) ∙ passed x into v (word old w x z) other
+        ]
+      ]
+
+-- the w words from place a on, where they are there
+pub part_length : (xs : List ℕ) (a w m : ℕ) → a + w ≤ length xs → m ≡ w → length (take m (drop a xs)) ≡ w
+part_length xs a w m l e = omega (arith, length-take m (drop a xs), length-drop a xs)
+
+pub first_length : (xs : List ℕ) (w : ℕ) → w ≤ length xs → length (take w xs) ≡ w
+first_length xs w l = omega (arith, length-take w xs)
+
+pub row_within : (a w n : ℕ) → a < n → a * w + w ≤ n * w
+row_within a w n l =
+    let least : (a + 1) * w ≤ n * w = mul-le-mul_right w (omega arith) in
+    let one_more : (a + 1) * w ≡ a * w + w = omega arith in
+    omega arith
+
+module _ (old row : List ℕ) (n w into from m : ℕ) (whole : length old ≡ n * w) (long : length row ≡ w) (wide : m ≡ w) where
+  -- the row stands in the front part, before row from
+  pub joined_front : (front back : List ℕ) → into < from → from < n → front ≡ take (from * w) old → back ≡ drop (from * w) old
+      → ((z : ℕ) → z < w → get_or row z 0 ≡ bit_or (get_or (take m (drop (into * w) front)) z 0) (get_or (take w back) z 0))
+      → IsJoined old ((take (into * w) front ++ (row ++ drop m (drop (into * w) front))) ++ back) n w into from × (length ((take (into * w) front ++ (row ++ drop m (drop (into * w) front))) ++ back) ≡ length old)
+  joined_front front back apart other f b each =
+      let a = into * w in
+      let mid = from * w in
+      let part = take mid old in
+      let tail = drop mid old in
+      let bound : (z : ℕ) → z < w → a + z < mid = λ z lz. place_before into w z from apart lz in
+      let least : (into + 1) * w ≤ from * w = mul-le-mul_right w (omega arith) in
+      let most : from * w ≤ n * w = mul-le-mul_right w (omega arith) in
+      let one_more : (into + 1) * w ≡ a + w = omega arith in
+      let fits : a + w ≤ length part = omega (arith, length-take mid old) in
+      let joined_tail : drop m (drop a part) ++ tail ≡ drop (a + w) old =
+      ap (λ k. drop k (drop a part) ++ tail) wide ∙ ap (λ xs. xs ++ tail) (drop-drop w a part) ∙ sym (drop-append-le (a + w) part tail fits) ∙ ap (drop (a + w)) (take-append-drop mid old) in
+      let shape : (take a front ++ (row ++ drop m (drop a front))) ++ back ≡ take a old ++ (row ++ drop (a + w) old) =
+      ap (λ xs. (take a xs ++ (row ++ drop m (drop a xs))) ++ back) f
+      ∙ ap (λ ys. (take a part ++ (row ++ drop m (drop a part))) ++ ys) b
+      ∙ append_assoc (take a part) (row ++ drop m (drop a part)) tail
+      ∙ ap (λ ys. take a part ++ ys) (append_assoc row (drop m (drop a part)) tail)
+      ∙ ap (λ ys. take a part ++ (row ++ ys)) joined_tail
+      ∙ ap (λ xs. xs ++ (row ++ drop (a + w) old)) (take-take a mid old (omega arith)) in
+      rw shape (
+        joined_row old row n w into from whole (omega arith) long (λ z lz.
+            each z lz
+            ∙ ap (λ v. bit_or v (get_or (take w back) z 0)) (get_or-take m (drop a front) z 0 (omega arith) ∙ get_or-drop a front z 0 ∙ ap (λ xs. get_or xs (a + z) 0) f ∙ get_or-take mid old (a + z) 0 (bound z lz))
+            ∙ ap (λ v. bit_or (word old w into z) v) (get_or-take w back z 0 lz ∙ ap (λ xs. get_or xs z 0) b ∙ get_or-drop mid old z 0)),
+        joined_length old row n w into from whole (omega arith) long,
+      )
+
+  -- the row begins the back part, after row from
+  pub joined_back : (front back : List ℕ) → from < into → into < n → front ≡ take (into * w) old → back ≡ drop (into * w) old
+      → ((z : ℕ) → z < w → get_or row z 0 ≡ bit_or (get_or (take w back) z 0) (get_or (take m (drop (from * w) front)) z 0))
+      → IsJoined old (front ++ (row ++ drop w back)) n w into from × (length (front ++ (row ++ drop w back)) ≡ length old)
+  joined_back front back apart other f b each =
+      let a = into * w in
+      let shape : front ++ (row ++ drop w back) ≡ take a old ++ (row ++ drop (a + w) old) =
+      ap (λ xs. xs ++ (row ++ drop w back)) f ∙ ap (λ ys. take a old ++ (row ++ drop w ys)) b ∙ ap (λ ys. take a old ++ (row ++ ys)) (drop-drop w a old) in
+      rw shape (
+        joined_row old row n w into from whole other long (λ z lz.
+            each z lz
+            ∙ ap (λ v. bit_or v (get_or (take m (drop (from * w) front)) z 0)) (get_or-take w back z 0 lz ∙ ap (λ xs. get_or xs z 0) b ∙ get_or-drop a old z 0)
+            ∙ ap (λ v. bit_or (word old w into z) v) (get_or-take m (drop (from * w) front) z 0 (omega arith) ∙ get_or-drop (from * w) front z 0 ∙ ap (λ xs. get_or xs (from * w + z) 0) f ∙ get_or-take a old (from * w + z) 0 (place_before from w z into apart lz))),
+        joined_length old row n w into from whole other long,
+      )
+
+joined_bit : (x into : ℕ) (o f : Bool) → cond (eqb x into) (o || f) o ≡ (o || (eqb x into && f))
+joined_bit x into o f = grind (arith, nat_tests)
+
+JoinsRow-all : (old new : List ℕ) (n into from : ℕ) → length new ≡ length old → IsJoined old new n (row_words n) into from → JoinsRow old new n into from
 JoinsRow-all old new n into from same joined = record {
   same_length = same;
   each = λ x y l m.
@@ -118,10 +217,14 @@ JoinsRow-all old new n into from same joined = record {
       let o = word old w x z in
       let f = word old w from z in
       ap (λ k. eqb (bit_at k i) 1) (joined x z l (column_word y n m))
-      ∙ bit_of_cond (eqb x into && ltb z w) (bit_or o f) o i
-      ∙ ap (λ q. cond (eqb x into && ltb z w) q (eqb (bit_at o i) 1)) (bit_of_or o f i)
-      ∙ joined_bit x into z w (eqb (bit_at o i) 1) (eqb (bit_at f i) 1) (column_word y n m);
+      ∙ bit_of_cond (eqb x into) (bit_or o f) o i
+      ∙ ap (λ q. cond (eqb x into) q (eqb (bit_at o i) 1)) (bit_of_or o f i)
+      ∙ joined_bit x into (eqb (bit_at o i) 1) (eqb (bit_at f i) 1);
 }
+
+-- the same, with the width that a row has
+pub JoinsRow-rows : (old new : List ℕ) (n w into from : ℕ) → w ≡ row_words n → IsJoined old new n w into from × (length new ≡ length old) → JoinsRow old new n into from
+JoinsRow-rows old new n w into from width joined = JoinsRow-all old new n into from joined.1 (subst (λ (k : ℕ). IsJoined old new n k into from) width joined.0)
 
 -- ---- no bit is set
 

@@ -3,6 +3,7 @@
 
 mod crossing;
 mod fixings;
+pub mod lanes;
 mod table;
 #[cfg(test)]
 mod tests;

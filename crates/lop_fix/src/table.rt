@@ -2,6 +2,7 @@
 ghost use Rattle.std.specs.Prelude.{◌≡◌, ◌≢◌, ◌+◌, ◌*◌, ◌/◌, ◌<◌, ◌==◌, ◌||◌, length, false, replicate, IfOk};
 ghost use Rattle.lop_fix.specs.Table.{at, row_words, SetsBit, JoinsRow, Links};
 
+use crate::lanes::or_into;
 use std::alloc::{AllocError, Global};
 
 /// How many words a row takes.
@@ -64,8 +65,18 @@ fn join_row(words: &mut [u64], n: usize, into: usize, from: usize)
     ensures { JoinsRow words.old words.new n into from }
 {
     let width = row_words(n);
-    for k in 0..width {
-        words[into * width + k] |= words[from * width + k];
+    if into < from {
+        let (front, back) = words.split_at_mut(from * width);
+        or_into(
+            &mut front[into * width..into * width + width],
+            &back[..width],
+        );
+    } else {
+        let (front, back) = words.split_at_mut(into * width);
+        or_into(
+            &mut back[..width],
+            &front[from * width..from * width + width],
+        );
     }
 }
 

@@ -1,6 +1,7 @@
+use crate::lanes::or_into;
 use crate::{Decision, Fixings, PathFault};
 use lop_model::Pair;
-use std::alloc::Global;
+use std::alloc::{AllocError, Global};
 use std::test::Fail;
 
 fn pair(before: u16, after: u16) -> Pair {
@@ -85,6 +86,52 @@ fn chains_across_words(rt: HostRuntime) -> Result<(), Fail> {
             Some(Decision::Undecided),
             "{a} {b}"
         );
+    }
+    Ok(())
+}
+
+// -1, 0, 1, 10^18 and -10^18 in turn, as words in two's complement, from one place of that list on.
+fn words(alloc: Global, count: usize, from: usize) -> Result<Vec<u64>, AllocError> {
+    let turn: [u64; 5] = [
+        u64::MAX,
+        0,
+        1,
+        1_000_000_000_000_000_000,
+        17_446_744_073_709_551_616,
+    ];
+    let mut words = Vec::new(alloc);
+    for k in 0..count {
+        words.push(turn[(from % 5 + k % 5) % 5])?;
+    }
+    Ok(words)
+}
+
+// The OR of two rows by a plain loop.
+fn plain_or(alloc: Global, row: &[u64], with: &[u64]) -> Result<Vec<u64>, AllocError> {
+    let mut joined = Vec::new(alloc);
+    for (word, other) in row.iter().zip(with.iter()) {
+        joined.push(*word | *other)?;
+    }
+    Ok(joined)
+}
+
+// Joins two rows of one length, and says whether they are.
+fn join(row: &mut [u64], with: &[u64]) -> bool {
+    if row.len() != with.len() {
+        return false;
+    }
+    or_into(row, with);
+    true
+}
+
+#[test]
+fn lanes_equal_the_plain_loop(rt: HostRuntime) -> Result<(), Fail> {
+    for count in [0, 1, 7, 8, 9, 64, 65] {
+        let mut row = words(rt.alloc(), count, 0)?;
+        let with = words(rt.alloc(), count, 1)?;
+        let plain = plain_or(rt.alloc(), &row, &with)?;
+        assert!(rt; join(&mut row, &with), "{count}");
+        assert_eq!(rt; row, plain, "{count}");
     }
     Ok(())
 }

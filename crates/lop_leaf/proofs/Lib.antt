@@ -1,3 +1,4 @@
+pub mod LaneLemmas
 pub mod ChargeLemmas
 pub mod ResidualLemmas
 pub mod PackingLemmas

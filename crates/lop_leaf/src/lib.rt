@@ -6,6 +6,7 @@ mod charges;
 mod crossing;
 mod evaluated;
 mod hints;
+pub mod lanes;
 mod leaf_record;
 mod pack;
 #[cfg(test)]

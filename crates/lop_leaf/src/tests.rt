@@ -1,10 +1,11 @@
 ghost use Rattle.std.specs.Prelude.{◌≤◌};
 
+use crate::lanes::greater_of;
 use crate::{Evaluated, LeafRecord, PairRoom, Ticket, bound_of, packing, round_hints, upper};
 use lop_cuts::Cut;
 use lop_fix::{Decision, Fixings};
 use lop_model::{Order, Pair, Weights};
-use std::alloc::Global;
+use std::alloc::{AllocError, Global};
 use std::test::Fail;
 
 // Three objects with the pair maxima 5, 3 and 4, which no order reaches together.
@@ -204,6 +205,53 @@ fn results(rt: HostRuntime) -> Result<(), Fail> {
     assert_eq!(rt; result.pair(), pair);
     assert_eq!(rt; result.shown().scale(), 1);
     assert_eq!(rt; result.order().n(), 3);
+    Ok(())
+}
+
+// -1, 0, 1, 10^18 and -10^18 in turn, from one place of that list on.
+fn turns(alloc: Global, count: usize, from: usize) -> Result<Vec<i64>, AllocError> {
+    let turn: [i64; 5] = [
+        -1,
+        0,
+        1,
+        1_000_000_000_000_000_000,
+        -1_000_000_000_000_000_000,
+    ];
+    let mut numbers = Vec::new(alloc);
+    for k in 0..count {
+        numbers.push(turn[(from % 5 + k % 5) % 5])?;
+    }
+    Ok(numbers)
+}
+
+// The greater ones of two rows by a plain loop.
+fn plain_greater(alloc: Global, left: &[i64], right: &[i64]) -> Result<Vec<i64>, AllocError> {
+    let mut greater = Vec::new(alloc);
+    for (first, second) in left.iter().zip(right.iter()) {
+        greater.push(if *first < *second { *second } else { *first })?;
+    }
+    Ok(greater)
+}
+
+// Writes the greater ones of rows of one length, and says whether they are.
+fn choose(left: &[i64], right: &[i64], out: &mut [i64]) -> bool {
+    if right.len() != left.len() || out.len() != left.len() {
+        return false;
+    }
+    greater_of(left, right, out);
+    true
+}
+
+#[test]
+fn lanes_equal_the_plain_loop(rt: HostRuntime) -> Result<(), Fail> {
+    for count in [0, 1, 7, 8, 9, 64, 65] {
+        let left = turns(rt.alloc(), count, 0)?;
+        let right = turns(rt.alloc(), count, 1)?;
+        let mut greater = turns(rt.alloc(), count, 2)?;
+        let plain = plain_greater(rt.alloc(), &left, &right)?;
+        assert!(rt; choose(&left, &right, &mut greater), "{count}");
+        assert_eq!(rt; greater, plain, "{count}");
+    }
     Ok(())
 }
 

@@ -6,7 +6,6 @@ mod graph;
 mod ladder;
 mod ladders;
 mod layers;
-mod offer;
 mod ring;
 mod room;
 mod work;

@@ -1,5 +1,5 @@
 //! Short odd closed walks in the graph.
-ghost use Rattle.std.specs.Prelude.{◌≡◌, ◌+◌, ◌<◌, ◌≤◌};
+ghost use Rattle.std.specs.Prelude.{◌+◌, ◌<◌, ◌≤◌};
 
 use crate::graph::{Graph, HALF};
 use crate::layers::Layers;

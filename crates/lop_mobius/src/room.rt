@@ -1,10 +1,9 @@
 ghost use Rattle.std.specs.Prelude.{◌≡◌, ◌≤◌, length, IfOk};
-ghost use Rattle.lop_mobius.specs.Separation.{GainsViolated};
+ghost use Rattle.lop_cuts.specs.Separation.{GainsViolated};
 
 use crate::graph::{Graph, NODES};
 use crate::ladder::ladder_of_ring;
 use crate::layers::Layers;
-use crate::offer::offer;
 use crate::ring::ring_from;
 use crate::work::Work;
 use lop_cuts::{CutList, Point};
@@ -87,7 +86,7 @@ impl RingRoom {
     {
         if let Some(nodes) = ring_from(&self.graph, &mut self.layers, &mut self.work, start, k) {
             if let Some(cut) = ladder_of_ring(&self.graph, nodes, k, point.n()) {
-                offer(point, cut, list, from, until);
+                list.offer(point, cut, from, until);
             }
         }
     }

@@ -1,5 +1,5 @@
 -- A sound result of an open node stays sound under a lower bound that a record shows, another undecided pair and another order.
-use Rattle.std.proofs.Common.{false, ◌≡◌, ℕ, List, refl, sym, ◌∙◌, ap, subst, Some, ℤ, pos, ◌+ℤ◌, ◌*ℤ◌, ◌≤ℤ◌, ◌<ℤ◌, arith}
+use Rattle.std.proofs.Common.{false, ◌≡◌, ℕ, List, refl, sym, subst, Some, ℤ, pos, ◌+ℤ◌, ◌*ℤ◌, ◌≤ℤ◌, ◌<ℤ◌, arith}
 use Rattle.std.specs.Prelude.{◌↔◌, int_le}
 use Rattle.std.proofs.lemmas.Int.{ints}
 use Rattle.lop_model.specs.declared.pair.Pair.{Pair}

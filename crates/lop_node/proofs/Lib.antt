@@ -1,5 +1,6 @@
 pub mod ExtensionLemmas
 pub mod SoundLemmas
+pub mod PackLemmas
 pub mod RootLemmas
 pub mod BetterLemmas
 pub mod RoundLemmas

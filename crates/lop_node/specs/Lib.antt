@@ -1,3 +1,4 @@
 pub mod Extension
 pub mod Judged
+pub mod Pool
 pub mod Rounds

@@ -48,7 +48,7 @@ fn cell_of(a: u16, b: u16) -> usize
 }
 
 /// By how many 64ths values of this sum are above a right side, rounded down, at most 64.
-fn level_above(sum: u64, right_side: u32) -> u8 {
+pub fn level_above(sum: u64, right_side: u32) -> u8 {
     let over = sum.saturating_sub(u64::from(right_side).wrapping_mul(Point::ONE));
     (over >> 26).min(64) as u8
 }
@@ -63,7 +63,7 @@ fn value_of(point: &Point, a: u16, b: u16) -> u64 {
 }
 
 /// The values of arcs, added up. O(arcs).
-fn sum_of(point: &Point, arcs: &[Pair]) -> u64 {
+pub fn sum_of(point: &Point, arcs: &[Pair]) -> u64 {
     let mut sum: u64 = 0;
     for arc in arcs {
         sum = sum.wrapping_add(value_of(point, arc.before, arc.after));

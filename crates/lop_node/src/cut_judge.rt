@@ -79,9 +79,13 @@ impl CutJudge {
         ensures sound { IsSoundResult weights.now ticket.now into.new }
     {
         fix_path(&mut self.fixings, ticket.path());
-        let start = start_of(ticket, into);
-        self.rounds
-            .run(weights, &self.fixings, start, into.order(), ticket.best());
+        self.rounds.run(
+            weights,
+            &self.fixings,
+            ticket.inherited(),
+            into.order(),
+            ticket.best(),
+        );
         let pair = branching_pair(
             weights,
             &self.fixings,
@@ -102,17 +106,6 @@ impl CutJudge {
         } else {
             put_better(weights, &self.rounds, pair, bound, into);
         }
-    }
-}
-
-/// The record whose rows the rounds start with: the inherited one, and at the root the one that packing left.
-fn start_of<'a>(ticket: &'a Ticket, into: &'a Evaluated) -> &'a LeafRecord
-    ensures { (n : ℕ) → FitTerms n ticket.now.inherited.terms → FitTerms n into.now.shown.terms → FitTerms n result.now.terms }
-{
-    if ticket.inherited().len() > 0 {
-        ticket.inherited()
-    } else {
-        into.shown()
     }
 }
 

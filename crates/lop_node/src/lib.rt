@@ -6,10 +6,14 @@ mod by_point;
 mod choice;
 mod cut_judge;
 mod extension;
+mod inherited;
 mod judge;
+mod margins;
 mod pack_judge;
+mod pool;
 mod rounds;
 mod search;
+mod start;
 #[cfg(test)]
 mod tests;
 

@@ -1,8 +1,8 @@
 ghost use Rattle.std.specs.Prelude.{◌≡◌, ◌≤ℤ◌, length, IfOk};
-ghost use Rattle.lop_model.specs.Fixings.{IsClosure, IsBranchingPath};
+ghost use Rattle.lop_model.specs.Fixings.{IsClosure, IsBranchingPath, IsLinearExtension};
 ghost use Rattle.lop_fix.specs.PartialOrder.{IsPartialOrder};
 ghost use Rattle.lop_leaf.specs.Bound.{record_value, IsQuotient};
-ghost use Rattle.lop_leaf.specs.Sound.{IsSoundTicket};
+ghost use Rattle.lop_leaf.specs.Sound.{IsSoundTicket, IsSoundResult};
 
 use crate::Judge;
 use crate::extension::extend;
@@ -81,7 +81,7 @@ fn inherited_bound(
 }
 
 impl Judge for PackJudge {
-    ghost use Rattle.lop_node.specs.Judged.{IsPackJudged};
+    ghost use Rattle.lop_node.specs.Judged.{IsPackJudged, IsLesserBound, IsFirstPair};
 
     ghost objects = { λ j. j };
 
@@ -91,7 +91,19 @@ impl Judge for PackJudge {
         self.fixings.n()
     }
 
-    fn judge(&mut self, weights: &Weights, ticket: &Ticket, into: &mut Evaluated) {
+    /// The bound is the lesser of the packing bound and that of the inherited record, the pair the first undecided one,
+    /// and the order extends the path. O(n³) at most.
+    fn judge(&mut self, weights: &Weights, ticket: &Ticket, into: &mut Evaluated)
+        requires same_n { self.old ≡ weights.now.size }
+        requires ticket { IsSoundTicket weights.now ticket.now }
+        requires into { length into.old.order ≡ weights.now.size }
+        ensures same_n { self.new ≡ self.old }
+        ensures sound { IsSoundResult weights.now ticket.now into.new }
+        ensures judged { IsPackJudged weights.now ticket.now.path into.new.bound into.new.pair into.new.value }
+        ensures lesser { IsLesserBound weights.now ticket.now into.new.bound }
+        ensures pair { IsFirstPair weights.now.size ticket.now.path into.new.pair }
+        ensures extends { IsLinearExtension into.new.order ticket.now.path }
+    {
         fix_path(&mut self.fixings, ticket.path());
         extend(&self.fixings, &mut self.counts, &mut self.order);
         let value = value(weights, &self.order);

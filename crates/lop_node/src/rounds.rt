@@ -1,13 +1,17 @@
 // The rounds of a judge that cuts: solving, an order by the point, and cuts that the point violates.
-ghost use Rattle.std.specs.Prelude.{◌≡◌, ◌<◌, ◌≤◌, length, All, IfOk};
+ghost use Rattle.std.specs.Prelude.{◌≡◌, ◌<◌, ◌≤◌, length, All, IfOk, vec_len};
 ghost use Rattle.lop_cuts.specs.Kind.{FitsCut};
 ghost use Rattle.lop_leaf.specs.Record.{FitTerms};
 
 use crate::by_point::order_by_point;
 use crate::choice::{Choice, Taken};
+use crate::inherited::add_rows;
+use crate::margins::Margins;
+use crate::pool::Pool;
 use crate::search::{find_dicycles, find_fences, find_ladders};
-use lop_ascent::{AscentRoom, RowReply};
-use lop_climb::{ClimbRoom, climb};
+use crate::start::start_rows;
+use lop_ascent::AscentRoom;
+use lop_climb::{ClimbRoom, climb, start_order};
 use lop_cuts::{CutList, Point};
 use lop_fix::Fixings;
 use lop_leaf::{LeafRecord, round_hints};
@@ -25,6 +29,12 @@ const MOST_LADDER_ROUNDS: u32 = 4;
 
 /// How many ladders a search may find.
 const MOST_LADDERS: usize = 200;
+
+/// How many violated ladders of the pool save a search for new ones.
+const ENOUGH_KEPT: usize = 32;
+
+/// How many rows leave room for the 128 that a round may add.
+const MOST_KEPT_ROWS: usize = 3_968;
 
 /// The steps of the first run, and of a run after a round that was filled without ladders.
 const SHORT_RUN: u32 = 24;
@@ -58,7 +68,9 @@ pub struct Rounds {
     point: Point,
     found: CutList,
     choice: Choice,
+    pool: Pool,
     rings: RingRoom,
+    margins: Margins,
     sums: Vec<u64>,
     next: Order,
     climb: ClimbRoom,
@@ -75,7 +87,7 @@ impl Model for Rounds {
 
     ghost view = { λ r. record { size = r.size; shown = r.rounded; order = r.best } };
 
-    ghost invariant = { λ r. IsRounds r.size r.ascent.size r.point.size r.found.room r.choice r.rings (vec_len r.sums) (length r.next) (length r.climb) r.rounded.terms (length r.best) };
+    ghost invariant = { λ r. IsRounds r.size r.ascent.size r.point.size r.found.room r.choice r.pool r.rings (vec_len r.sums) (length r.next) (length r.climb) r.rounded.terms (length r.best) };
 }
 
 /// How many violated dicycles a round looks at.
@@ -85,6 +97,62 @@ fn room_of(n: u16) -> usize
     if n < 100 { 16_384 } else { 65_536 }
 }
 
+/// The rooms of the searches for cuts, while they are made.
+#[derive(Drop)]
+struct Searches {
+    found: CutList,
+    choice: Choice,
+    pool: Pool,
+    rings: RingRoom,
+    margins: Margins,
+}
+
+impl Searches {
+    fn new(alloc: Global, n: u16) -> Result<Self, AllocError>
+        requires positive { 1 ≤ n }
+        requires within_limit { n ≤ 512 }
+        ensures same_room { IfOk result (λ s. s.found.room ≡ s.choice) }
+        ensures same_pool { IfOk result (λ s. s.pool ≡ n) }
+        ensures same_rings { IfOk result (λ s. s.rings ≡ n) }
+    {
+        let room = room_of(n);
+        Ok(Searches {
+            found: CutList::new(alloc, room)?,
+            choice: Choice::new(alloc, room)?,
+            pool: Pool::new(alloc, n)?,
+            rings: RingRoom::new(alloc, n)?,
+            margins: Margins::new(alloc, n)?,
+        })
+    }
+}
+
+/// The rooms for orders, while they are made.
+#[derive(Drop)]
+struct Orders {
+    sums: Vec<u64>,
+    next: Order,
+    climb: ClimbRoom,
+    best: Order,
+}
+
+impl Orders {
+    fn new(alloc: Global, n: u16) -> Result<Self, AllocError>
+        requires positive { 1 ≤ n }
+        requires within_limit { n ≤ 512 }
+        ensures same_sums { IfOk result (λ o. vec_len o.sums ≡ n) }
+        ensures same_next { IfOk result (λ o. length o.next ≡ n) }
+        ensures same_climb { IfOk result (λ o. length o.climb ≡ n) }
+        ensures same_best { IfOk result (λ o. length o.best ≡ n) }
+    {
+        Ok(Orders {
+            sums: vec![in alloc; 0; n as usize]?,
+            next: Order::first(alloc, n)?,
+            climb: ClimbRoom::new(alloc, n)?,
+            best: Order::first(alloc, n)?,
+        })
+    }
+}
+
 impl Rounds {
     /// Takes the rooms for n objects.
     pub fn new(alloc: Global, n: u16) -> Result<Self, AllocError>
@@ -92,19 +160,25 @@ impl Rounds {
         requires within_limit { n ≤ 512 }
         ensures { IfOk result (λ r. r.size ≡ n) }
     {
-        let room = room_of(n);
+        let searches = Searches::new(alloc, n)?;
+        let orders = Orders::new(alloc, n)?;
+        let ascent = AscentRoom::new(alloc, n)?;
+        let point = Point::new(alloc, n)?;
+        let rounded = LeafRecord::new(alloc)?;
         Ok(Rounds {
             size: n,
-            ascent: AscentRoom::new(alloc, n)?,
-            point: Point::new(alloc, n)?,
-            found: CutList::new(alloc, room)?,
-            choice: Choice::new(alloc, room)?,
-            rings: RingRoom::new(alloc, n)?,
-            sums: vec![in alloc; 0; n as usize]?,
-            next: Order::first(alloc, n)?,
-            climb: ClimbRoom::new(alloc, n)?,
-            rounded: LeafRecord::new(alloc)?,
-            best: Order::first(alloc, n)?,
+            ascent,
+            point,
+            found: searches.found,
+            choice: searches.choice,
+            pool: searches.pool,
+            rings: searches.rings,
+            margins: searches.margins,
+            sums: orders.sums,
+            next: orders.next,
+            climb: orders.climb,
+            rounded,
+            best: orders.best,
         })
     }
 
@@ -176,10 +250,11 @@ impl Rounds {
         };
         for _round in 0..MOST_ROUNDS {
             match self.round(weights, fixings, pace) {
-                None => return,
+                None => break,
                 Some(next) => pace = next,
             }
         }
+        self.keep_ladders();
     }
 
     /// The rows of the record, with its multipliers, and the order to start with.
@@ -193,7 +268,29 @@ impl Rounds {
         self.forget();
         self.start_order(weights, order);
         self.ascent.load(weights, fixings);
-        add_rows(&mut self.ascent, start);
+        if start.len() == 0 {
+            self.start_anew(weights, fixings);
+        } else {
+            add_rows(&mut self.ascent, start);
+        }
+    }
+
+    /// The rows of a node that inherits none.
+    fn start_anew(&mut self, weights: &Weights, fixings: &Fixings)
+        requires weights { self.old.size ≡ weights.now.size }
+        requires fixings { fixings.now.size ≡ weights.now.size }
+        ensures { self.new.size ≡ self.old.size }
+    {
+        start_order(weights, &mut self.climb);
+        let climbed = climb(weights, &mut self.climb).value;
+        self.keep_best(weights, climbed);
+        start_rows(
+            weights,
+            fixings,
+            &self.best,
+            &mut self.margins,
+            &mut self.ascent,
+        );
     }
 
     /// Leaves a record with no term.
@@ -229,7 +326,7 @@ impl Rounds {
         if bound <= threshold {
             return None;
         }
-        let _dropped = self.ascent.drop_slack_rows();
+        self.drop_rows();
         let dicycles = self.add_dicycles();
         if dicycles.rest() == 0 {
             return next_pace(pace, SHORT_RUN, best, bound, threshold, dicycles.added);
@@ -290,6 +387,16 @@ impl Rounds {
         }
     }
 
+    /// Drops the idle rows, and where there is no room for those that a round adds, those of the least multipliers.
+    fn drop_rows(&mut self)
+        ensures { self.new.size ≡ self.old.size }
+    {
+        let _idle = self.ascent.drop_slack_rows();
+        if self.ascent.len() > MOST_KEPT_ROWS {
+            let _least = self.ascent.drop_least_rows(MOST_KEPT_ROWS);
+        }
+    }
+
     /// Adds violated dicycles as rows, as a round's first cuts.
     fn add_dicycles(&mut self) -> Taken
         ensures { self.new.size ≡ self.old.size }
@@ -319,8 +426,27 @@ impl Rounds {
         )
     }
 
-    /// Adds violated ladders as rows, until the round is full.
+    /// Adds violated ladders as rows, until the round is full: those that are kept first, and those of a search where
+    /// few of them are violated.
     fn add_ladders(&mut self, before: Taken) -> Taken
+        ensures { self.new.size ≡ self.old.size }
+    {
+        self.pool.find(&self.point, &mut self.found);
+        let kept = self.found.len();
+        let some = take_found(
+            &self.point,
+            &self.found,
+            &mut self.choice,
+            &mut self.ascent,
+            before,
+        );
+        if kept >= ENOUGH_KEPT {
+            return some;
+        }
+        self.add_new_ladders(some)
+    }
+
+    fn add_new_ladders(&mut self, before: Taken) -> Taken
         ensures { self.new.size ≡ self.old.size }
     {
         find_ladders(&self.point, MOST_LADDERS, &mut self.found, &mut self.rings);
@@ -331,6 +457,13 @@ impl Rounds {
             &mut self.ascent,
             before,
         )
+    }
+
+    /// Keeps the ladders of the record for later nodes.
+    fn keep_ladders(&mut self)
+        ensures { self.new.size ≡ self.old.size }
+    {
+        self.pool.keep(&self.rounded);
     }
 }
 
@@ -349,27 +482,6 @@ fn take_found(
 {
     let _free = found.free();
     choice.take(point, found, ascent, before)
-}
-
-/// Adds a row for a term.
-fn add_term(ascent: &mut AscentRoom, start: &LeafRecord, index: usize) -> RowReply
-    requires index { index < length start.now.terms }
-    requires fit { FitTerms ascent.old.size start.now.terms }
-    ensures { ascent.new.size ≡ ascent.old.size }
-{
-    let scale = start.scale();
-    let term = start.term(index);
-    ascent.add_row(&term.cut, term.multiplier, scale)
-}
-
-/// Adds a row for each term. O(terms²).
-fn add_rows(ascent: &mut AscentRoom, start: &LeafRecord)
-    requires { FitTerms ascent.old.size start.now.terms }
-    ensures { ascent.new.size ≡ ascent.old.size }
-{
-    for index in 0..start.len() {
-        let _reply = add_term(ascent, start, index);
-    }
 }
 
 /// Rounds the hints of the rows to a record. O(rows).

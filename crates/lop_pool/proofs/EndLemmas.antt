@@ -1,5 +1,5 @@
 -- How a search begins and ends.
-use Rattle.std.proofs.Common.{◌≡◌, ℕ, inl, inr, List, [], ◌∷◌, ◌++◌, length, take, drop, arith, sym, ◌∙◌, refl, ap, subst}
+use Rattle.std.proofs.Common.{◌≡◌, ℕ, ◌+◌, ◌*◌, ◌≤◌, inl, inr, List, [], ◌∷◌, ◌++◌, length, take, drop, arith, sym, ◌∙◌, refl, ap, subst}
 use Rattle.std.specs.Prelude.{ℤ, ◌≤ℤ◌, ◌↔◌, All}
 use Rattle.std.specs.Int.{int_max}
 use Rattle.std.proofs.lemmas.Int.{ints, clamps}
@@ -12,6 +12,9 @@ use Rattle.lop_core.specs.Machine.{Problem, SearchState, root_state, state_bound
 use Rattle.lop_core.specs.Journal.{replay, AreCounted}
 use Rattle.lop_core.specs.Core.{CoreFields, HasHistory}
 use Rattle.lop_core.specs.Outcome.{IsFinished}
+use Rattle.lop_core.specs.AllOrders.{factorial}
+use Rattle.lop_core.proofs.DoneNodes.{evaluated_live}
+use Rattle.lop_core.proofs.NodeCount.{core_nodes_factorial}
 use Rattle.lop_core.proofs.Monotone.{core_from_root, core_from_start}
 use Rattle.lop_pool.specs.declared.end.SearchEnd.{SearchEnd}
 use Rattle.lop_pool.specs.declared.end.SearchEnd.TheVariants.{Closed, Spent}
@@ -53,6 +56,11 @@ closed_iff core Spent h = (λ (same : Spent ≡ Closed). absurd cc, λ none. abs
 pub spent_iff : (core : CoreFields) (e : SearchEnd) → IsEnd core e → (e ≡ Spent) ↔ IsSpent core
 spent_iff core Closed h = (λ (same : Closed ≡ Spent). absurd cc, λ spent. absurd (h spent.0.0 spent.0.1))
 spent_iff core Spent h = (λ _. h, λ _. refl)
+
+-- a budget for all nodes that there can be closes the search
+pub closed_by : (core : CoreFields) (e : SearchEnd) → HasHistory core → IsEnd core e → 2 * factorial core.problem.weights.size ≤ core.problem.budget + 1 → e ≡ Closed
+closed_by core Closed h end enough = refl
+closed_by core Spent h end enough = let more = evaluated_live core end.0.0 h end.0.1 in absurd (omega (arith, end.1, enough, core_nodes_factorial core h, more))
 
 pub finished : (core : CoreFields) (e : SearchEnd) → IsEnd core e → out_count core.state.nodes ≡ 0 → IsFinished core.problem core.state
 finished core Closed h none = record { none_out = none; closed_or_spent = inl h }

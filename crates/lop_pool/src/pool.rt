@@ -1,5 +1,6 @@
 //! The pool of workers, and the search.
-ghost use Rattle.std.specs.Prelude.{◌≡◌, ◌<◌, ◌≤◌, ◌≤ℤ◌, ◌↔◌, length, slice_index_or, vec_len, IfOk, All};
+ghost use Rattle.std.specs.Prelude.{◌≡◌, ◌+◌, ◌*◌, ◌<◌, ◌≤◌, ◌≤ℤ◌, ◌↔◌, length, slice_index_or, vec_len, IfOk, All};
+ghost use Rattle.lop_core.specs.AllOrders.{factorial};
 ghost use Rattle.lop_core.specs.Tree.{out_count};
 ghost use Rattle.lop_core.specs.Machine.{IsLive, state_bound};
 ghost use Rattle.lop_core.specs.Core.{HasHistory};
@@ -78,9 +79,10 @@ impl<J: Judge> Pool<J> {
         ensures bound { state_bound result.0.state ≤ℤ state_bound core.state }
         ensures none_out { out_count result.0.state.nodes ≡ 0 }
 
-        // How it ended.
+        // How it ended. A tree has fewer than 2 · n! nodes, so a budget for as many closes it.
         ensures closed { (result.1 ≡ Closed) ↔ NoneLive result.0 }
         ensures spent { (result.1 ≡ Spent) ↔ IsSpent result.0 }
+        ensures enough { 2 * factorial result.0.problem.weights.size ≤ result.0.problem.budget + 1 → result.1 ≡ Closed }
         ensures finished { IsFinished result.0.problem result.0.state }
         ensures outcome { IsOutcome result.0.problem.weights result.0.problem.budget result.0.order result.0.state.best (state_bound result.0.state) result.0.state.evaluated }
 

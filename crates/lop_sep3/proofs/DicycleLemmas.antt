@@ -1,7 +1,7 @@
 -- The dicycles of n objects are cuts that fit n.
-use Rattle.std.proofs.Common.{◌≡◌, ◌≢◌, ℕ, zero, suc, ◌+◌, ◌-◌, ◌<◌, ◌≤◌, Bool, true, false, List, [], ◌∷◌, ◌++◌, length, get_or, take, refl, sym, ◌∙◌, ap, subst, arith, eqb}
+use Rattle.std.proofs.Common.{◌≡◌, ◌≢◌, ℕ, zero, suc, ◌+◌, ◌-◌, ◌<◌, ◌≤◌, Bool, false, List, [], ◌∷◌, ◌++◌, length, get_or, take, refl, sym, ◌∙◌, ap, subst, arith}
 use Rattle.std.specs.Prelude.{nat_eq}
-use Rattle.std.specs.List.{range_with_len, flat_map, filter, All, AllWithin, IsDistinct}
+use Rattle.std.specs.List.{range_with_len, flat_map, All, AllWithin, IsDistinct}
 use Rattle.std.proofs.lemmas.Bool.{ltb-true}
 use Rattle.std.proofs.lemmas.Bool.Decides.{nat_tests}
 use Rattle.std.proofs.lemmas.List.{get_or-append_right, length-append}
@@ -10,7 +10,8 @@ use Rattle.lop_cuts.specs.declared.kind.CutKind.{CutKind}
 use Rattle.lop_cuts.specs.declared.kind.CutKind.TheVariants.{Dicycle}
 use Rattle.lop_cuts.specs.Kind.{IsCut, FitsCut}
 use Rattle.lop_cuts.specs.Point.{PointValues}
-use Rattle.lop_sep3.specs.Dicycles.{objects_from, both_dicycles, dicycles_over, dicycles_from, dicycles, violates, violated_dicycles, IsViolatedCut}
+use Rattle.lop_cuts.specs.Separation.{IsViolatedCut}
+use Rattle.lop_sep3.specs.Dicycles.{objects_from, both_dicycles, dicycles_over, dicycles_from, dicycles, violates, violated_dicycles}
 
 -- a cut of objects below n
 record IsCutBelow (n : ℕ) (c : CutKind) : Type 0 where

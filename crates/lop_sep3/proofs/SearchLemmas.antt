@@ -1,5 +1,5 @@
 -- What a search appends, part by part.
-use Rattle.std.proofs.Common.{◌≡◌, ◌≢◌, ◌⊎◌, ℕ, zero, suc, ◌+◌, ◌-◌, ◌*◌, ◌^◌, ◌<◌, ◌≤◌, Bool, true, false, cond, ltb, min, List, [], ◌∷◌, ◌++◌, length, take, map, refl, sym, ◌∙◌, ap, subst, arith, add-zero, zero-add, append_assoc, append-nil, length-append, length-take}
+use Rattle.std.proofs.Common.{◌≡◌, ℕ, zero, suc, ◌+◌, ◌-◌, ◌*◌, ◌^◌, ◌<◌, ◌≤◌, Bool, true, false, ltb, List, [], ◌∷◌, ◌++◌, length, take, refl, sym, ◌∙◌, ap, subst, arith, add-zero, zero-add, append_assoc, append-nil, length-append, length-take}
 use Rattle.std.specs.List.{range_with_len, flat_map, filter}
 use Rattle.std.proofs.lemmas.Bool.{lt-ltb, le-ltb}
 use Rattle.std.proofs.lemmas.Bool.Decides.{nat_tests}
@@ -11,7 +11,7 @@ use Rattle.lop_cuts.specs.declared.kind.CutKind.{CutKind}
 use Rattle.lop_cuts.specs.declared.kind.CutKind.TheVariants.{Dicycle}
 use Rattle.lop_cuts.specs.CutList.{BoundedCuts}
 use Rattle.lop_cuts.specs.Point.{PointValues, value_at, IsPoint}
-use Rattle.lop_sep3.specs.Dicycles.{objects_from, both_dicycles, violates}
+use Rattle.lop_sep3.specs.Dicycles.{objects_from, violates}
 use Rattle.lop_sep3.specs.Search.{IsAppended}
 
 -- ---- the objects of a part

@@ -3,8 +3,8 @@ use Rattle.std.specs.Prelude.{ℕ, ◌+◌, ◌-◌, ◌*◌, ◌^◌, nat_lt, B
 use Rattle.std.specs.List.{range_with_len, flat_map}
 use Rattle.lop_cuts.specs.declared.kind.CutKind.{CutKind}
 use Rattle.lop_cuts.specs.declared.kind.CutKind.TheVariants.{Dicycle}
-use Rattle.lop_cuts.specs.Kind.{IsCut, FitsCut, arcs_of, right_side_of}
-use Rattle.lop_cuts.specs.Point.{PointValues, arcs_value, IsViolated}
+use Rattle.lop_cuts.specs.Kind.{arcs_of, right_side_of}
+use Rattle.lop_cuts.specs.Point.{PointValues, arcs_value}
 
 -- a, a + 1, .., n - 1
 abbrev pub objects_from : ℕ → ℕ → List ℕ
@@ -33,9 +33,3 @@ violates p cut = nat_lt (right_side_of cut * 2 ^ 32) (arcs_value p (arcs_of cut)
 -- the dicycles that the point violates, in that order
 abbrev pub violated_dicycles : PointValues → List CutKind
 violated_dicycles p = filter (violates p) (dicycles p.size)
-
--- a cut of the point's objects that the point violates
-pub record IsViolatedCut (p : PointValues) (c : CutKind) : Type 0 where
-  pub cut : IsCut c
-  pub fits : FitsCut p.size c
-  pub violated : IsViolated p c

@@ -2,7 +2,8 @@ ghost use Rattle.std.specs.Prelude.{◌≡◌, ◌≢◌, ◌↔◌, ◌+◌, �
 ghost use Rattle.std.specs.List.{AllWithin};
 ghost use Rattle.lop_cuts.specs.declared.kind.CutKind.TheVariants.{Dicycle};
 ghost use Rattle.lop_cuts.specs.Point.{value_at};
-ghost use Rattle.lop_sep3.specs.Dicycles.{both_dicycles, dicycles_over, dicycles_from, dicycles, violates, violated_dicycles, IsViolatedCut};
+ghost use Rattle.lop_cuts.specs.Separation.{IsViolatedCut};
+ghost use Rattle.lop_sep3.specs.Dicycles.{both_dicycles, dicycles_over, dicycles_from, dicycles, violates, violated_dicycles};
 ghost use Rattle.lop_sep3.specs.Search.{IsAppended};
 
 use lop_cuts::{Cut, CutList, Point};

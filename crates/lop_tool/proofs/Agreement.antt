@@ -104,10 +104,10 @@ other_name n f test same = not_from_Decides (bytes_eq n f) (bytes_eq-Decides n f
 
 agree_told : (words others : List (List ℕ)) (w : World) (new : Option World) (before now solved checked : ℕ) → BothEnded (command_of words) (command_of others) (Some w) new before now solved checked → IsRoundTrip (command_of words) (command_of others) → ¬ (Rose before now) → IsDoneNumber solved
     → (checked ≡ solved) ⊎ (checked ≡ number status.Memory)
-agree_told words others w new before now solved checked both (round_trip format file name nodes first second) calm ends =
-    let apart : name ≢ file = other_name name file (names_apart words format file name nodes first) in
-    trip format file name nodes w both.between new before both.faults_between now solved checked apart (limits words (Solve format file nodes (Some name)) first).1
-    (solves (Some w) both.between before both.faults_between solved (command_of words) both.first_ended format file nodes (Some name) first ends)
+agree_told words others w new before now solved checked both (round_trip format file name workers nodes first second) calm ends =
+    let apart : name ≢ file = other_name name file (names_apart words format file name workers nodes first) in
+    trip format file name nodes w both.between new before both.faults_between now solved checked apart (limits words (Solve format file workers nodes (Some name)) first).3
+    (solves (Some w) both.between before both.faults_between solved (command_of words) both.first_ended format file workers nodes (Some name) first ends)
     (subst (λ (c : Option Command). Ended c both.between new both.faults_between now checked) second both.second_ended) both.first_later calm
 
 pub agree : (words others : List (List ℕ)) (old new : Option World) (before now solved checked : ℕ) → BothEnded (command_of words) (command_of others) old new before now solved checked → Agree (command_of words) (command_of others) old before now solved checked

@@ -54,6 +54,13 @@ module _ (told : Option (List NamedFile)) where
   no_reply : (s : Status) (text : List ℕ) (left : Option NamedFile) → IsReply told None s text left → (s ≡ status.NoCommand) × (text ≡ words_line) × (left ≡ None)
   no_reply s text left (refused_words line) = (refl, line, refl)
 
+  -- a right reply ends with neither 4 nor 5
+  no_fault : (command : Option Command) (s : Status) (text : List ℕ) (left : Option NamedFile) (n k : ℕ) → IsReply told command s text left → n ≡ number s → n ≡ k → 4 ≤ k → k ≤ 5 → ⊥
+  no_fault command s text left n k (done {optimal = b} accepted d) is same low high = done_not n k b is (omega (arith, low)) (omega (arith, high)) same
+  no_fault command s text left n k (rejected r is_rejection line) is same low high = omega (arith, is, same, low)
+  no_fault command s text left n k (refused_input r is_first line) is same low high = omega (arith, is, same, low)
+  no_fault command s text left n k (refused_words line) is same low high = omega (arith, is, same, low)
+
 -- a text that was printed, where no file is left
 alone : (old new : Option World) (text line : List ℕ) (left : Option NamedFile) → left ≡ None → text ≡ line → Leaves text left old new → PrintsOnly old new line
 alone old new text line left none same leaves = subst (λ (l : Option NamedFile). Leaves line l old new) none (subst (λ (t : List ℕ). Leaves t left old new) same leaves)
@@ -77,7 +84,8 @@ module _ (old new : Option World) (before now n : ℕ) where
   ended_as command given same ended = subst (λ (c : Option Command). Ended c old new before now n) same ended
 
   pub solves : (command : Option Command) → Ended command old new before now n → SolvesFile command old new n
-  solves command ended = λ format file nodes cert same ends. kept_by _ _ (solves_of (files_of old) format file nodes cert) (done_by (Solve format file nodes cert) (ended_as command (Some (Solve format file nodes cert)) same ended) ends)
+  solves command ended = λ format file workers nodes cert same ends.
+      kept_by _ _ (solves_of (files_of old) format file workers nodes cert) (done_by (Solve format file workers nodes cert) (ended_as command (Some (Solve format file workers nodes cert)) same ended) ends)
 
   pub checks : (command : Option Command) → Ended command old new before now n → AcceptsCertificate command old new n
   checks command ended = λ format file cert same ends. kept_by _ _ (accepts_of (files_of old) format file cert) (done_by (Check format file cert) (ended_as command (Some (Check format file cert)) same ended) ends)
@@ -147,34 +155,22 @@ module _ (old new : Option World) (before now n : ℕ) where
       always c (lacked is leaves) none = inr (inl is)
 
   pub faults : (command : Option Command) → Ended command old new before now n → n ≡ number status.Fault → Faulted command old before now
+  faults command (replied s text left reply is leaves) four = absurd (no_fault (files_of old) command s text left n 4 reply is four (omega arith) (omega arith))
   faults command (cut_off s text left k reply is fault leaves) four = fault
   faults command (faulted is fault leaves) four = fault
   faults command (lacked is leaves) four = absurd (omega (arith, is, four))
-  faults None (replied s text left reply is leaves) four = absurd (let two : n ≡ 2 = is ∙ ap number (no_reply (files_of old) s text left reply).0 in omega (arith, two, four))
-  faults (Some c) (replied s text left reply is leaves) four = by_reply (files_of old) c s text left reply
-      (λ b same _ _. absurd (done_not n 4 b (is ∙ ap number same) (omega arith) (omega arith) four))
-      (λ r same _ _ _. absurd (let one : n ≡ 1 = is ∙ ap number same in omega (arith, one, four)))
-      (λ r same _ _ _. absurd (let three : n ≡ 3 = is ∙ ap number same in omega (arith, three, four)))
 
   pub left_by_fault : (command : Option Command) → Ended command old new before now n → n ≡ number status.Fault → LeavesAtMost command old new
+  left_by_fault command (replied s text left reply is leaves) four = absurd (no_fault (files_of old) command s text left n 4 reply is four (omega arith) (omega arith))
   left_by_fault command (cut_off s text left k reply is fault leaves) four = inr (record { answer = s; text = text; left = left; right = reply; count = k; leaves = leaves })
   left_by_fault command (faulted is fault leaves) four = inl leaves
   left_by_fault command (lacked is leaves) four = inl leaves
-  left_by_fault None (replied s text left reply is leaves) four = absurd (let two : n ≡ 2 = is ∙ ap number (no_reply (files_of old) s text left reply).0 in omega (arith, two, four))
-  left_by_fault (Some c) (replied s text left reply is leaves) four = by_reply (files_of old) c s text left reply
-      (λ b same _ _. absurd (done_not n 4 b (is ∙ ap number same) (omega arith) (omega arith) four))
-      (λ r same _ _ _. absurd (let one : n ≡ 1 = is ∙ ap number same in omega (arith, one, four)))
-      (λ r same _ _ _. absurd (let three : n ≡ 3 = is ∙ ap number same in omega (arith, three, four)))
 
   pub left_by_want : (command : Option Command) → Ended command old new before now n → n ≡ number status.Memory → LeavesAll old new
+  left_by_want command (replied s text left reply is leaves) five = absurd (no_fault (files_of old) command s text left n 5 reply is five (omega arith) (omega arith))
   left_by_want command (cut_off s text left k reply is fault leaves) five = absurd (omega (arith, is, five))
   left_by_want command (faulted is fault leaves) five = leaves
   left_by_want command (lacked is leaves) five = leaves
-  left_by_want None (replied s text left reply is leaves) five = absurd (let two : n ≡ 2 = is ∙ ap number (no_reply (files_of old) s text left reply).0 in omega (arith, two, five))
-  left_by_want (Some c) (replied s text left reply is leaves) five = by_reply (files_of old) c s text left reply
-      (λ b same _ _. absurd (done_not n 5 b (is ∙ ap number same) (omega arith) (omega arith) five))
-      (λ r same _ _ _. absurd (let one : n ≡ 1 = is ∙ ap number same in omega (arith, one, five)))
-      (λ r same _ _ _. absurd (let three : n ≡ 3 = is ∙ ap number same in omega (arith, three, five)))
 
 -- ---- exactly where
 

@@ -13,7 +13,7 @@ use Rattle.lop_core.specs.AllOrders.{factorial}
 use Rattle.lop_core.proofs.DoneNodes.{closed_within}
 use Rattle.lop_core.proofs.NodeCount.{core_nodes_factorial}
 use Rattle.lop_core.proofs.Alone.{core_outcome, spent_above, bound_closed}
-use Rattle.lop_core.proofs.CoreLemmas.{core_bound, prepared_true}
+use Rattle.lop_core.proofs.CoreLemmas.{core_bound}
 use Rattle.lop_core.proofs.Monotone.{core_from_start, core_packed, core_packed_closed}
 use Rattle.lop_climb.specs.StartOrder.{IsBeckerOrder}
 use Rattle.lop_report.proofs.TotalLemmas.{within_limit}
@@ -60,11 +60,11 @@ of_prepared core p h f = record {
 }
 
 -- a core that was just made, with an order that weighs at least as much as the start order
-pub IsPrepared-made : (C : Matrix) (s : List ℕ) (budget : ℕ) (core : CoreFields) → core ≡ prepared (record { weights = C; start = weight C s; budget = budget }) s → 1 ≤ budget → IsWeights C → IsOrder C.size s → ((t : List ℕ) → IsBeckerOrder C t → weight C t ≤ℤ weight C s) → IsClimbed C (weight C s)
-    → IsPrepared core × HasHistory core × (out_count core.state.nodes ≡ 0)
-IsPrepared-made C s budget core is positive weights order from_start climbed =
+pub IsPrepared-made : (C : Matrix) (s : List ℕ) (budget : ℕ) (core : CoreFields) → core ≡ prepared (record { weights = C; start = weight C s; budget = budget }) s → 1 ≤ budget → IsWeights C → ((t : List ℕ) → IsBeckerOrder C t → weight C t ≤ℤ weight C s) → IsClimbed C (weight C s)
+    → IsPrepared core × (out_count core.state.nodes ≡ 0) × (core.state.evaluated ≡ 0)
+IsPrepared-made C s budget core is positive weights from_start climbed =
     let problem : Problem = record { weights = C; start = weight C s; budget = budget } in
-    subst (λ (x : CoreFields). IsPrepared x × HasHistory x × (out_count x.state.nodes ≡ 0)) (sym is) (record { positive = positive; weights = weights; from_start = from_start; climbed = climbed }, prepared_true problem s order refl, refl)
+    subst (λ (x : CoreFields). IsPrepared x × (out_count x.state.nodes ≡ 0) × (x.state.evaluated ≡ 0)) (sym is) (record { positive = positive; weights = weights; from_start = from_start; climbed = climbed }, refl, refl)
 
 -- what is prepared stays so while the problem stays
 still_prepared : (old core : CoreFields) → core.problem ≡ old.problem → IsPrepared old → IsPrepared core

@@ -21,14 +21,14 @@ use Rattle.lop_tool.specs.Ended.{LeavesFile}
 use Rattle.lop_tool.proofs.Stops.{told_files, told_map}
 
 -- an accepted file is all that `solve` reads
-solve_accepted : (format : Format) (file : List ℕ) (nodes : ℕ) (cert : Option (List ℕ)) (input : Instance) (files : List NamedFile) → input_named format files file ≡ Some (Ok input) → IsAccepted (Solve format file nodes cert) files
-solve_accepted format file nodes cert input files is = record { unrefused = λ refusal refused. subst (λ o. RefusesFirst o Input NoMore refusal) is refused; unrejected = λ rejection wrong. wrong }
+solve_accepted : (format : Format) (file : List ℕ) (workers nodes : ℕ) (cert : Option (List ℕ)) (input : Instance) (files : List NamedFile) → input_named format files file ≡ Some (Ok input) → IsAccepted (Solve format file workers nodes cert) files
+solve_accepted format file workers nodes cert input files is = record { unrefused = λ refusal refused. subst (λ o. RefusesFirst o Input NoMore refusal) is refused; unrejected = λ rejection wrong. wrong }
 
-pub solves_right : (format : Format) (file : List ℕ) (nodes : ℕ) (cert : Option (List ℕ)) (input : Instance) (old : Option World) (x : Solution) → IfSome old (λ w. input_named format w.files file ≡ Some (Ok input)) → SolvesInstance input nodes cert x
-    → IsRight (files_of old) (Some (Solve format file nodes cert)) (done_status (solution_optimal x)) (solution_text x) (LeavesCertificate x.cert x.core)
-solves_right format file nodes cert input old x read solves = λ left leaves.
+pub solves_right : (format : Format) (file : List ℕ) (workers nodes : ℕ) (cert : Option (List ℕ)) (input : Instance) (old : Option World) (x : Solution) → IfSome old (λ w. input_named format w.files file ≡ Some (Ok input)) → SolvesInstance input nodes cert x
+    → IsRight (files_of old) (Some (Solve format file workers nodes cert)) (done_status (solution_optimal x)) (solution_text x) (LeavesCertificate x.cert x.core)
+solves_right format file workers nodes cert input old x read solves = λ left leaves.
     let told : IfSome (files_of old) (λ files. input_named format files file ≡ Some (Ok input)) = told_files (λ files. input_named format files file ≡ Some (Ok input)) old read in
-    done (told_map (λ files. input_named format files file ≡ Some (Ok input)) (IsAccepted (Solve format file nodes cert)) (files_of old) (solve_accepted format file nodes cert input) told) (solved (record {
+    done (told_map (λ files. input_named format files file ≡ Some (Ok input)) (IsAccepted (Solve format file workers nodes cert)) (files_of old) (solve_accepted format file workers nodes cert input) told) (solved (record {
       input = x.input;
       accepted_file = subst (λ (i : Instance). IfSome (files_of old) (λ files. input_named format files file ≡ Some (Ok i))) (sym solves.input_is) told;
       found = found_of x.core;
@@ -39,10 +39,10 @@ solves_right format file nodes cert input old x read solves = λ left leaves.
       left_is = subst (λ (n : Option (List ℕ)). LeavesCertificate n x.core left) solves.cert_is leaves;
     }))
 
-pub solve_right : {E : Type 0} (format : Format) (file : List ℕ) (nodes : ℕ) (cert : Option (List ℕ)) (input : Instance) (old : Option World) (r : Result Solution E) → IfSome old (λ w. input_named format w.files file ≡ Some (Ok input)) → IfOk r (SolvesInstance input nodes cert)
-    → IfOk r (λ x. IsRight (files_of old) (Some (Solve format file nodes cert)) (done_status (solution_optimal x)) (solution_text x) (LeavesCertificate x.cert x.core))
-solve_right format file nodes cert input old (Ok x) read solves = solves_right format file nodes cert input old x read solves
-solve_right format file nodes cert input old (Err e) read solves = tt
+pub solve_right : {E : Type 0} (format : Format) (file : List ℕ) (workers nodes : ℕ) (cert : Option (List ℕ)) (input : Instance) (old : Option World) (r : Result Solution E) → IfSome old (λ w. input_named format w.files file ≡ Some (Ok input)) → IfOk r (SolvesInstance input nodes cert)
+    → IfOk r (λ x. IsRight (files_of old) (Some (Solve format file workers nodes cert)) (done_status (solution_optimal x)) (solution_text x) (LeavesCertificate x.cert x.core))
+solve_right format file workers nodes cert input old (Ok x) read solves = solves_right format file workers nodes cert input old x read solves
+solve_right format file workers nodes cert input old (Err e) read solves = tt
 
 -- the begun file, with its certificate
 certificate_file : (name : List ℕ) (core : CoreFields) (old new : Option World) → HasBegun (Some name) old → WritesCertificate core old new → (left : Option NamedFile) × IsCertificateFile name core left × (settled new ≡ with_file left (settled old))
@@ -65,5 +65,5 @@ certificate_left cert name core old new r is begun writes =
     subst (λ (c : Option (List ℕ)). LeavesFile (LeavesCertificate c core) old new r) (sym is) (certificate_under name core old new r (subst (λ (c : Option (List ℕ)). HasBegun c old) is begun) writes)
 
 -- the promise of a `solve` that was done
-pub solves_of : (told : Option (List NamedFile)) (format : Format) (file : List ℕ) (nodes : ℕ) (cert : Option (List ℕ)) (optimal : Bool) (text : List ℕ) (left : Option NamedFile) → IsDone told (Solve format file nodes cert) optimal text left → Solves format file nodes cert told optimal text left
-solves_of told format file nodes cert optimal text left (solved s) = s
+pub solves_of : (told : Option (List NamedFile)) (format : Format) (file : List ℕ) (workers nodes : ℕ) (cert : Option (List ℕ)) (optimal : Bool) (text : List ℕ) (left : Option NamedFile) → IsDone told (Solve format file workers nodes cert) optimal text left → Solves format file nodes cert told optimal text left
+solves_of told format file workers nodes cert optimal text left (solved s) = s

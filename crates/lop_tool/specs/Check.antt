@@ -5,7 +5,7 @@ use Rattle.lop_desk.specs.Causes.{Rose}
 use Rattle.lop_desk.specs.Desk.{IsMissing}
 use Rattle.lop_model.specs.Matrix.{Matrix, IsUpperBound}
 use Rattle.lop_certtext.specs.Answer.{CheckAnswer, accepted, rejected, too_long, IsCheckAnswer}
-use Rattle.lop_check.specs.Verdict.{IsWeighed}
+use Rattle.lop_model.specs.Attained.{IsAttained}
 use Rattle.lop_report.specs.Lines.{is_optimal}
 use Rattle.lop_report.specs.AnswerText.{accepted_text}
 use Rattle.lop_words.specs.declared.command.Format.{Format}
@@ -45,7 +45,7 @@ pub record Accepts (format : Format) (file cert : List ℕ) (told : Option (List
   pub value : ℤ
   pub bound : ℤ
   pub checked : IfSome told (λ files. IsChecked format file cert files input (accepted value bound))
-  pub weighed : IsWeighed input.weights value
+  pub weighed : IsAttained input.weights value
   pub bounds : IsUpperBound input.weights bound
   pub optimal_is : optimal ≡ is_optimal value bound
   pub text_is : text ≡ accepted_text value bound
@@ -82,7 +82,7 @@ outcome_status (Rejected rejection) = status.Rejected
 
 -- an accepted value is the weight of some order, and no order weighs more than the accepted bound
 abbrev pub IsBounded : Matrix → Outcome → Type 0
-IsBounded C (Accepted value bound) = IsWeighed C value × IsUpperBound C bound
+IsBounded C (Accepted value bound) = IsAttained C value × IsUpperBound C bound
 IsBounded C (Rejected rejection) = ⊤
 
 -- what the bytes that are still to be read come to, or why they come to nothing

@@ -19,8 +19,8 @@ use Rattle.lop_tool.specs.Gen.{Generates}
 
 -- a command was done: with value and bound the same or not, with this text, and with this file left, if there is one
 pub data IsDone (told : Option (List NamedFile)) : Command → Bool → List ℕ → Option NamedFile → Type 0 where
-  solved : {format : Format} {file : List ℕ} {nodes : ℕ} {cert : Option (List ℕ)} {optimal : Bool} {text : List ℕ} {left : Option NamedFile}
-      → Solves format file nodes cert told optimal text left → IsDone told (Solve format file nodes cert) optimal text left
+  solved : {format : Format} {file : List ℕ} {workers nodes : ℕ} {cert : Option (List ℕ)} {optimal : Bool} {text : List ℕ} {left : Option NamedFile}
+      → Solves format file nodes cert told optimal text left → IsDone told (Solve format file workers nodes cert) optimal text left
   accepted : {format : Format} {file cert : List ℕ} {optimal : Bool} {text : List ℕ} {left : Option NamedFile}
       → Accepts format file cert told optimal text left → IsDone told (Check format file cert) optimal text left
   weighed : {format : Format} {file order_file : List ℕ} {optimal : Bool} {text : List ℕ} {left : Option NamedFile}

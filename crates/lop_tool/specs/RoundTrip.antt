@@ -20,7 +20,8 @@ pub record BothEnded (first second : Option Command) (old new : Option World) (b
 
 -- a `solve` with a certificate, and the `check` of that certificate against the same file
 pub data IsRoundTrip (first second : Option Command) : Type 0 where
-  round_trip : (format : Format) (file name : List ℕ) (nodes : ℕ) → first ≡ Some (Solve format file nodes (Some name)) → second ≡ Some (Check format file name) → IsRoundTrip first second
+  round_trip : (format : Format) (file name : List ℕ) (workers nodes : ℕ)
+      → first ≡ Some (Solve format file workers nodes (Some name)) → second ≡ Some (Check format file name) → IsRoundTrip first second
 
 -- where no call failed and the first ended with 0 or 6, the second ends with the same, or for want of memory
 abbrev pub Agree : Option Command → Option Command → Option World → ℕ → ℕ → ℕ → ℕ → Type 0

@@ -41,7 +41,8 @@ pub record DoneBy (promise : Bool → List ℕ → Option NamedFile → Type 0) 
 
 abbrev pub SolvesFile : Option Command → Option World → Option World → ℕ → Type 0
 SolvesFile command old new n =
-    (format : Format) (file : List ℕ) (nodes : ℕ) (cert : Option (List ℕ)) → command ≡ Some (Solve format file nodes cert) → IsDoneNumber n → DoneBy (Solves format file nodes cert (files_of old)) old new n
+    (format : Format) (file : List ℕ) (workers nodes : ℕ) (cert : Option (List ℕ)) → command ≡ Some (Solve format file workers nodes cert) → IsDoneNumber n
+    → DoneBy (Solves format file nodes cert (files_of old)) old new n
 
 abbrev pub AcceptsCertificate : Option Command → Option World → Option World → ℕ → Type 0
 AcceptsCertificate command old new n =

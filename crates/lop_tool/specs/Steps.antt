@@ -11,7 +11,7 @@ use Rattle.lop_tool.specs.Check.{IsLongCertificate, RejectsCertificate}
 
 -- the files that a command names for reading
 abbrev pub reads : Command → List (List ℕ)
-reads (Solve format file nodes cert) = file ∷ []
+reads (Solve format file workers nodes cert) = file ∷ []
 reads (Check format file cert) = file ∷ cert ∷ []
 reads (Value format file order_file) = file ∷ order_file ∷ []
 reads (Gen seed n) = []
@@ -29,7 +29,7 @@ NoMore x refusal = ⊥
 
 -- the first input of a command that is refused, in the order of its steps
 abbrev pub IsFirstRefusal : Command → Option (List NamedFile) → Refusal → Type 0
-IsFirstRefusal (Solve format file nodes cert) told refusal = IfSome told (λ files. RefusesFirst (input_named format files file) Input NoMore refusal)
+IsFirstRefusal (Solve format file workers nodes cert) told refusal = IfSome told (λ files. RefusesFirst (input_named format files file) Input NoMore refusal)
 IsFirstRefusal (Check format file cert) told refusal = IfSome told (λ files. RefusesFirst (input_named format files file) Input (λ input. IsLongCertificate input.weights cert files) refusal)
 IsFirstRefusal (Value format file order_file) told refusal =
     IfSome told (λ files. RefusesFirst (input_named format files file) Input (λ input. RefusesFirst (order_named input.weights.size files order_file) Order NoMore) refusal)

@@ -12,17 +12,27 @@ ghost use Rattle.lop_tool.specs.Run.{ExactlyWhere, SolvesFile, AcceptsCertificat
 use crate::checking::check;
 use crate::generation::generated;
 use crate::reply::{NoCommand, deliver};
+use crate::search::Means;
 use crate::solve::solve;
 use crate::status::Status;
 use crate::weighing::weigh;
 use lop_desk::{Desk, TextRoom};
+use lop_pool::Gate;
 use lop_words::{Command, WordsFault, read_words};
 use std::alloc::Global;
+use std::thread::Threads;
 
 /// Does what the words after the program's name ask for, prints the answer and gives the status: 0 done, with value and
 /// bound equal; 1 the certificate is rejected; 2 no command; 3 an input is refused; 4 a call of the desk failed; 5 memory
-/// ran out; 6 done, with the bound above the value.
-pub fn run<D: Desk>(alloc: Global, words: &[String], desk: &mut D) -> u8
+/// ran out; 6 done, with the bound above the value. A search runs its workers in threads, and each passes the gate before
+/// it judges a node. What is promised holds for every number of workers, every gate, and every order of their steps.
+pub fn run<R: Threads + Sync, D: Desk, G: Gate>(
+    rt: &R,
+    alloc: Global,
+    words: &[String],
+    desk: &mut D,
+    gate: &G,
+) -> u8
     ensures later { D.faults desk.old ≤ D.faults desk.new }
     ensures statuses { result ≤ 6 }
 
@@ -70,22 +80,26 @@ pub fn run<D: Desk>(alloc: Global, words: &[String], desk: &mut D) -> u8
     // All of this at once, for a run that others follow.
     ensures ended { Ended (command_of (map (λ s. string_bytes s) words.now)) (D.told desk.old) (D.told desk.new) (D.faults desk.old) (D.faults desk.new) result }
 {
-    carry_out(alloc, words, desk).number()
+    carry_out(&Means { rt, alloc, gate }, words, desk).number()
 }
 
 // The same, with how it ended as its one clause.
-fn carry_out<D: Desk>(alloc: Global, words: &[String], desk: &mut D) -> Status
+fn carry_out<R: Threads + Sync, D: Desk, G: Gate>(
+    means: &Means<R, G>,
+    words: &[String],
+    desk: &mut D,
+) -> Status
     ensures later { D.faults desk.old ≤ D.faults desk.new }
     ensures ended { Ended (command_of (map (λ s. string_bytes s) words.now)) (D.told desk.old) (D.told desk.new) (D.faults desk.old) (D.faults desk.new) (number result) }
 {
-    match TextRoom::new(alloc) {
-        Ok(mut room) => answer_words(alloc, words, desk, &mut room),
+    match TextRoom::new(means.alloc) {
+        Ok(mut room) => answer_words(means, words, desk, &mut room),
         Err(_) => Status::Memory,
     }
 }
 
-fn answer_words<D: Desk>(
-    alloc: Global,
+fn answer_words<R: Threads + Sync, D: Desk, G: Gate>(
+    means: &Means<R, G>,
     words: &[String],
     desk: &mut D,
     room: &mut TextRoom,
@@ -93,8 +107,8 @@ fn answer_words<D: Desk>(
     ensures later { D.faults desk.old ≤ D.faults desk.new }
     ensures ended { Ended (command_of (map (λ s. string_bytes s) words.now)) (D.told desk.old) (D.told desk.new) (D.faults desk.old) (D.faults desk.new) (number result) }
 {
-    match read_words(alloc, words) {
-        Ok(command) => obey(alloc, command, desk, room),
+    match read_words(means.alloc, words) {
+        Ok(command) => obey(means, command, desk, room),
         Err(WordsFault::Usage) => refuse_words(desk, room),
         Err(WordsFault::Memory) => Status::Memory,
     }
@@ -108,7 +122,12 @@ fn refuse_words<D: Desk>(desk: &mut D, room: &mut TextRoom) -> Status
 }
 
 // Each command is a module of its own.
-fn obey<D: Desk>(alloc: Global, command: Command, desk: &mut D, room: &mut TextRoom) -> Status
+fn obey<R: Threads + Sync, D: Desk, G: Gate>(
+    means: &Means<R, G>,
+    command: Command,
+    desk: &mut D,
+    room: &mut TextRoom,
+) -> Status
     requires { IsWithinLimits command }
     ensures later { D.faults desk.old ≤ D.faults desk.new }
     ensures ended { Ended (Some command) (D.told desk.old) (D.told desk.new) (D.faults desk.old) (D.faults desk.new) (number result) }
@@ -117,17 +136,24 @@ fn obey<D: Desk>(alloc: Global, command: Command, desk: &mut D, room: &mut TextR
         Command::Solve {
             format,
             file,
+            workers,
             nodes,
             cert,
-        } => solve(alloc, format, file.text(), nodes, cert, desk, room),
+        } => {
+            let file = file.text();
+            solve(means, format, file, workers, nodes, cert, desk, room)
+        }
         Command::Check { format, file, cert } => {
-            check(alloc, format, file.text(), cert.text(), desk, room)
+            check(means.alloc, format, file.text(), cert.text(), desk, room)
         }
         Command::Value {
             format,
             file,
             order_file,
-        } => weigh(alloc, format, file.text(), order_file.text(), desk, room),
-        Command::Gen { seed, n } => generated(alloc, seed, n, desk, room),
+        } => {
+            let order_file = order_file.text();
+            weigh(means.alloc, format, file.text(), order_file, desk, room)
+        }
+        Command::Gen { seed, n } => generated(means, seed, n, desk, room),
     }
 }

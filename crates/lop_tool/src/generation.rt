@@ -7,7 +7,7 @@ ghost use Rattle.lop_tool.specs.Gen.{IsGenerated, generation_text, generation_op
 ghost use Rattle.lop_tool.specs.Ended.{Ended, NoFile};
 
 use crate::reply::{Reply, deliver};
-use crate::search::Search;
+use crate::search::{Means, Search};
 use crate::solve::answer_of;
 use crate::status::{Status, done_status};
 use lop_core::Core;
@@ -15,10 +15,14 @@ use lop_desk::{Desk, DeskFailed, TextRoom};
 use lop_gen::{generate, lolib_text};
 use lop_lolib::{LolibRefusal, read_lolib};
 use lop_model::Weights;
+use lop_pool::Gate;
 use lop_report::print_generated;
 use std::alloc::{AllocError, Global};
+use std::thread::Threads;
 
-/// How many nodes a search on generated weights evaluates at most.
+/// How many workers search generated weights, and how many nodes they evaluate at most.
+const WORKERS: u32 = 1;
+
 const BUDGET: u32 = 10;
 
 /// The search of the weights that a seed gives.
@@ -64,8 +68,8 @@ impl Reply for Generation {
 }
 
 /// Solves the weights of n objects that the seed gives.
-pub fn generated<D: Desk>(
-    alloc: Global,
+pub fn generated<R: Threads + Sync, D: Desk, G: Gate>(
+    means: &Means<R, G>,
     seed: u64,
     n: u16,
     desk: &mut D,
@@ -76,24 +80,28 @@ pub fn generated<D: Desk>(
     ensures later { D.faults desk.old ≤ D.faults desk.new }
     ensures ended { Ended (Some (Gen seed n)) (D.told desk.old) (D.told desk.new) (D.faults desk.old) (D.faults desk.new) (number result) }
 {
-    match search_generated(alloc, seed, n) {
+    match search_generated(means, seed, n) {
         Ok(generation) => deliver(&generation, desk, room),
         Err(AllocError) => Status::Memory,
     }
 }
 
 // The weights are made, written as a text and read back before they are searched.
-fn search_generated(alloc: Global, seed: u64, n: u16) -> Result<Generation, AllocError>
+fn search_generated<R: Threads + Sync, G: Gate>(
+    means: &Means<R, G>,
+    seed: u64,
+    n: u16,
+) -> Result<Generation, AllocError>
     requires positive { 1 ≤ n }
     requires within_limit { n ≤ 512 }
     ensures { IfOk result (IsGenerated seed n) }
 {
-    let weights = generate(alloc, seed, n)?;
-    let weights = read_back(alloc, &weights)?;
-    let search = Search::prepare(alloc, &weights, BUDGET)?;
+    let weights = generate(means.alloc, seed, n)?;
+    let weights = read_back(means.alloc, &weights)?;
+    let search = Search::prepare(means.alloc, &weights, WORKERS, BUDGET)?;
     Ok(Generation {
         seed,
-        core: search.run(),
+        core: search.run(means, &weights),
     })
 }
 

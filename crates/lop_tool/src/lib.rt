@@ -17,6 +17,7 @@ mod stop;
 mod weighing;
 
 pub use dispatch::run;
+pub use lop_pool::{Gate, OpenGate};
 pub use round_trip::solve_then_check;
 
 #[cfg(test)]

@@ -15,14 +15,16 @@ use crate::certificate::{begin_certificate, leave_certificate};
 use crate::input::{Instance, read_input};
 use crate::refusal::Refusal;
 use crate::reply::{Reply, deliver, halt};
-use crate::search::Search;
+use crate::search::{Means, Search};
 use crate::status::{Status, done_status};
 use crate::stop::Stop;
 use lop_core::Core;
 use lop_desk::{Desk, DeskFailed, TextRoom};
+use lop_pool::Gate;
 use lop_report::{Answer, print_answer};
 use lop_words::{Format, NameWord};
-use std::alloc::{AllocError, Global};
+use std::alloc::AllocError;
+use std::thread::Threads;
 
 /// The search of an instance's weights.
 #[derive(Drop)]
@@ -81,59 +83,68 @@ pub fn answer_of(core: &Core) -> Answer
     }
 }
 
-/// Solves the named file, with so many nodes to evaluate at most. Where there is the name of a certificate, its file is
-/// begun before the search.
-pub fn solve<D: Desk>(
-    alloc: Global,
+/// Solves the named file by so many workers, with so many nodes to evaluate at most. Where there is the name of a
+/// certificate, its file is begun before the search.
+pub fn solve<R: Threads + Sync, D: Desk, G: Gate>(
+    means: &Means<R, G>,
     format: Format,
     file: &str,
+    workers: u32,
     nodes: u32,
     cert: Option<NameWord>,
     desk: &mut D,
     room: &mut TextRoom,
 ) -> Status
+    requires some { 1 ≤ workers }
+    requires at_most { workers ≤ 16 }
     requires positive { 1 ≤ nodes }
     requires within_limit { nodes ≤ 1000000 }
     ensures later { D.faults desk.old ≤ D.faults desk.new }
-    ensures ended { Ended (Some (Solve format file.now nodes cert)) (D.told desk.old) (D.told desk.new) (D.faults desk.old) (D.faults desk.new) (number result) }
+    ensures ended { Ended (Some (Solve format file.now workers nodes cert)) (D.told desk.old) (D.told desk.new) (D.faults desk.old) (D.faults desk.new) (number result) }
 {
-    match solve_file(alloc, format, file, nodes, cert, desk) {
+    match solve_file(means, format, file, workers, nodes, cert, desk) {
         Ok(solution) => deliver(&solution, desk, room),
         Err(stop) => halt(stop, desk, room),
     }
 }
 
-fn solve_file<D: Desk>(
-    alloc: Global,
+fn solve_file<R: Threads + Sync, D: Desk, G: Gate>(
+    means: &Means<R, G>,
     format: Format,
     file: &str,
+    workers: u32,
     nodes: u32,
     cert: Option<NameWord>,
     desk: &mut D,
 ) -> Result<Solution, Stop>
+    requires some { 1 ≤ workers }
+    requires at_most { workers ≤ 16 }
     requires positive { 1 ≤ nodes }
     requires within_limit { nodes ≤ 1000000 }
     ensures world { settled (D.told desk.new) ≡ settled (D.told desk.old) }
     ensures later { D.faults desk.old ≤ D.faults desk.new }
-    ensures right { IfOk result (λ x. IsRight (files_of (D.told desk.old)) (Some (Solve format file.now nodes cert)) (done_status (solution_optimal x)) (solution_text x) (LeavesCertificate x.cert x.core)) }
+    ensures right { IfOk result (λ x. IsRight (files_of (D.told desk.old)) (Some (Solve format file.now workers nodes cert)) (done_status (solution_optimal x)) (solution_text x) (LeavesCertificate x.cert x.core)) }
     ensures printable { IfOk result IsPrintable }
     ensures begun { IfOk result (λ x. HasBegun x.cert (D.told desk.new)) }
-    ensures stop { IfErr result (StopCause (Solve format file.now nodes cert) (D.told desk.old) (D.faults desk.old) (D.faults desk.new)) }
+    ensures stop { IfErr result (StopCause (Solve format file.now workers nodes cert) (D.told desk.old) (D.faults desk.old) (D.faults desk.new)) }
 {
-    match read_input(alloc, format, file, desk) {
-        Ok(Ok(input)) => solve_instance(alloc, input, nodes, cert, desk),
+    match read_input(means.alloc, format, file, desk) {
+        Ok(Ok(input)) => solve_instance(means, input, workers, nodes, cert, desk),
         Ok(Err(refusal)) => Err(Stop::Refused(Refusal::Input(refusal))),
         Err(stop) => Err(stop),
     }
 }
 
-fn solve_instance<D: Desk>(
-    alloc: Global,
+fn solve_instance<R: Threads + Sync, D: Desk, G: Gate>(
+    means: &Means<R, G>,
     input: Instance,
+    workers: u32,
     nodes: u32,
     cert: Option<NameWord>,
     desk: &mut D,
 ) -> Result<Solution, Stop>
+    requires some { 1 ≤ workers }
+    requires at_most { workers ≤ 16 }
     requires positive { 1 ≤ nodes }
     requires within_limit { nodes ≤ 1000000 }
     requires of_size { IsOfSize input.weights.size input.profile }
@@ -144,13 +155,12 @@ fn solve_instance<D: Desk>(
     ensures begun { IfOk result (λ x. HasBegun x.cert (D.told desk.new)) }
     ensures stop { IfErr result (BeginCause (D.faults desk.old) (D.faults desk.new)) }
 {
-    match Search::prepare(alloc, &input.weights, nodes) {
+    match Search::prepare(means.alloc, &input.weights, workers, nodes) {
         Ok(search) => match begin_certificate(&cert, desk) {
-            Ok(()) => Ok(Solution {
-                input,
-                core: search.run(),
-                cert,
-            }),
+            Ok(()) => {
+                let core = search.run(means, &input.weights);
+                Ok(Solution { input, core, cert })
+            }
             Err(stop) => Err(stop),
         },
         Err(AllocError) => Err(Stop::Memory),

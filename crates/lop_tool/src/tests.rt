@@ -1,9 +1,12 @@
 // Whole runs: what is printed, and how they end.
-use crate::{run, solve_then_check};
+use crate::{Gate, OpenGate, run, solve_then_check};
 use lop_desk::{MemoryDesk, NamedBytes};
+use lop_gen::{generate, lolib_text};
 use std::alloc::Global;
 use std::process::Abort;
+use std::sync::atomic::{AtomicBool, Ordering};
 use std::test::Fail;
+use std::thread::Threads;
 
 /// A file `a`, a file `b`, the words, the status, and what is printed.
 type Row = (
@@ -37,19 +40,24 @@ fn words_of(alloc: Global, line: &str) -> Result<Vec<String>, Fail> {
     Ok(words)
 }
 
-fn status(alloc: Global, line: &str, desk: &mut MemoryDesk) -> Result<u8, Fail> {
-    Ok(run(alloc, &words_of(alloc, line)?, desk))
+fn status<R: Threads + Sync>(
+    rt: &R,
+    alloc: Global,
+    line: &str,
+    desk: &mut MemoryDesk,
+) -> Result<u8, Fail> {
+    Ok(run(rt, alloc, &words_of(alloc, line)?, desk, &OpenGate))
 }
 
-fn ends(rt: &impl Abort, alloc: Global, row: &Row) -> Result<(), Fail> {
+fn ends<R: Abort + Threads + Sync>(rt: &R, alloc: Global, row: &Row) -> Result<(), Fail> {
     let (a, b, line, wanted, printed) = *row;
     let mut memory = desk(alloc, a, b, &[], 1000)?;
-    assert_eq!(rt; status(alloc, line, &mut memory)?, wanted, "{line}");
+    assert_eq!(rt; status(rt, alloc, line, &mut memory)?, wanted, "{line}");
     assert_eq!(rt; memory.printed(), printed, "{line}");
     Ok(())
 }
 
-fn all_end(rt: &impl Abort, alloc: Global, rows: &[Row]) -> Result<(), Fail> {
+fn all_end<R: Abort + Threads + Sync>(rt: &R, alloc: Global, rows: &[Row]) -> Result<(), Fail> {
     for row in rows {
         ends(rt, alloc, row)?;
     }
@@ -126,17 +134,46 @@ fn matrices(rt: HostRuntime) -> Result<(), Fail> {
     all_end(&rt, rt.alloc(), SOLVED)
 }
 
-// The fence has one order of weight 14 among others, and no bound but the search's own closes it.
+const FENCE_SOLVED: &[u8] =
+    b"objects 6\norder 4 5 3 6 1 2\nvalue 14\nbound 14\nstatus optimal\nnodes ";
+
+const FENCE_END: &[u8] = b"\ntotal 18\nlinearity 0.7777\n";
+
+const FEW_NODES: &[&str] = &["1", "2", "3", "4", "5"];
+
+/// Whether a line of these is printed.
+fn says(printed: &[u8], name: &str, values: &[&str]) -> bool {
+    let Ok(text) = str::from_utf8(printed) else {
+        return false;
+    };
+    for line in text.lines() {
+        if let Some((word, value)) = line.split_once(' ') {
+            if word == name && values.iter().any(|it| *it == value) {
+                return true;
+            }
+        }
+    }
+    false
+}
+
+// The fence has one order of weight 14 among others, and no bound but the search's own closes it. Without cuts it takes
+// at least seven nodes.
+fn fence_closes<R: Abort + Threads + Sync>(rt: &R, alloc: Global, line: &str) -> Result<(), Fail> {
+    let mut memory = desk(alloc, FENCE, b"", &[], 1000)?;
+    assert_eq!(rt; status(rt, alloc, line, &mut memory)?, 0, "{line}");
+    let printed = memory.printed();
+    assert!(rt; printed.starts_with(FENCE_SOLVED), "{line}");
+    assert!(rt; printed.ends_with(FENCE_END), "{line}");
+    assert!(rt; says(printed, "nodes", FEW_NODES), "{line}");
+    Ok(())
+}
+
 #[test]
 fn fence_to_the_end(rt: HostRuntime) -> Result<(), Fail> {
     let alloc = rt.alloc();
-    let mut memory = desk(alloc, FENCE, b"", &[], 1000)?;
-    assert_eq!(rt; status(alloc, SOLVE, &mut memory)?, 0);
-    assert!(rt;
-        memory.printed().starts_with(
-            b"objects 6\norder 4 5 3 6 1 2\nvalue 14\nbound 14\nstatus optimal\nnodes "
-        )
-    );
+    for line in ["solve lolib a", "solve lolib a --workers 4"] {
+        fence_closes(&rt, alloc, line)?;
+    }
     Ok(())
 }
 
@@ -319,7 +356,7 @@ fn words_that_are_no_command(rt: HostRuntime) -> Result<(), Fail> {
     for line in NO_COMMANDS {
         ends(&rt, alloc, &(SECTORS, b"", line, 2, b"refused words\n"))?;
         let mut memory = desk(alloc, SECTORS, b"", &[1], 1000)?;
-        assert_eq!(rt; status(alloc, line, &mut memory)?, 4);
+        assert_eq!(rt; status(&rt, alloc, line, &mut memory)?, 4);
     }
     Ok(())
 }
@@ -329,9 +366,9 @@ fn generated_twice(rt: HostRuntime) -> Result<(), Fail> {
     let alloc = rt.alloc();
     let mut first = desk(alloc, b"", b"", &[], 1000)?;
     let mut second = desk(alloc, b"", b"", &[], 1000)?;
-    let ends = status(alloc, "gen 7 20", &mut first)?;
+    let ends = status(&rt, alloc, "gen 7 20", &mut first)?;
     assert!(rt; ends == 0 || ends == 6, "{ends}");
-    assert_eq!(rt; status(alloc, "gen 7 20", &mut second)?, ends);
+    assert_eq!(rt; status(&rt, alloc, "gen 7 20", &mut second)?, ends);
     assert_eq!(rt; first.printed(), second.printed());
     assert!(rt; first.printed().starts_with(b"seed 7\nobjects 20\nvalue "));
     Ok(())
@@ -355,12 +392,12 @@ fn calls_that_fail(rt: HostRuntime) -> Result<(), Fail> {
     let alloc = rt.alloc();
     for (failing, room, printed) in CUT_OFF {
         let mut memory = desk(alloc, SECTORS, b"", failing, *room)?;
-        assert_eq!(rt; status(alloc, SOLVE, &mut memory)?, 4);
+        assert_eq!(rt; status(&rt, alloc, SOLVE, &mut memory)?, 4);
         assert_eq!(rt; memory.printed(), *printed);
         assert_eq!(rt; memory.faults(), 1);
     }
     let mut memory = desk(alloc, SECTORS, b"", &[], 1000)?;
-    assert_eq!(rt; status(alloc, "solve lolib c", &mut memory)?, 4);
+    assert_eq!(rt; status(&rt, alloc, "solve lolib c", &mut memory)?, 4);
     assert_eq!(rt; memory.faults(), 0);
     Ok(())
 }
@@ -400,10 +437,12 @@ fn round_trips(rt: HostRuntime) -> Result<(), Fail> {
     for (file, solve, check, wanted, last) in TRIPS {
         let mut memory = desk(alloc, file, b"", &[], 200_000)?;
         let ends = solve_then_check(
+            &rt,
             alloc,
             &words_of(alloc, solve)?,
             &words_of(alloc, check)?,
             &mut memory,
+            &OpenGate,
         );
         assert_eq!(rt; ends, (*wanted, *wanted), "{solve}");
         assert!(rt; memory.printed().ends_with(last), "{solve}");
@@ -419,13 +458,90 @@ fn certificates_of_the_sectors(rt: HostRuntime) -> Result<(), Fail> {
         b"lopcert 1\nobjects 3\norder 1 2 3\nvalue 10\nbound 10\ncuts 1\ndicycle 1 2 3\nleaf 1 1 1 2\nend\n";
     let solve = "solve lolib a --cert c --nodes 1";
     let mut memory = desk(alloc, SECTORS, b"", &[], 1000)?;
-    assert_eq!(rt; status(alloc, solve, &mut memory)?, 0);
+    assert_eq!(rt; status(&rt, alloc, solve, &mut memory)?, 0);
     assert_eq!(rt; memory.file("c"), Some(written.as_slice()));
     for call in 1..15 {
         let mut failing = desk(alloc, SECTORS, b"", &[call], 1000)?;
-        assert_eq!(rt; status(alloc, solve, &mut failing)?, 4);
+        assert_eq!(rt; status(&rt, alloc, solve, &mut failing)?, 4);
         assert_eq!(rt; failing.file("c"), None);
         assert_eq!(rt; failing.printed(), b"".as_slice());
     }
+    Ok(())
+}
+
+// Two workers show each other that they have a ticket. Each looks for the other a bounded number of times.
+#[derive(Drop)]
+struct Meeting {
+    first: AtomicBool,
+    second: AtomicBool,
+    first_met: AtomicBool,
+    second_met: AtomicBool,
+}
+
+impl Meeting {
+    fn new() -> Self {
+        Meeting {
+            first: AtomicBool::new(false),
+            second: AtomicBool::new(false),
+            first_met: AtomicBool::new(false),
+            second_met: AtomicBool::new(false),
+        }
+    }
+
+    fn both_met(&self) -> bool {
+        self.first_met.load(Ordering::SeqCst) && self.second_met.load(Ordering::SeqCst)
+    }
+}
+
+// Shows itself, and looks for the other.
+fn meet(own: &AtomicBool, other: &AtomicBool, met: &AtomicBool) {
+    own.store(true, Ordering::SeqCst);
+    for _ in 0..200_000_000 {
+        if other.load(Ordering::SeqCst) {
+            met.store(true, Ordering::SeqCst);
+            return;
+        }
+    }
+}
+
+impl Gate for Meeting {
+    fn before(&self, worker: u32, turn: u32) {
+        match (worker, turn) {
+            (1, 1) => meet(&self.first, &self.second, &self.first_met),
+            (2, 1) => meet(&self.second, &self.first, &self.second_met),
+            _ => {}
+        }
+    }
+}
+
+fn generated_text(alloc: Global) -> Result<Vec<u8>, Fail> {
+    let weights = generate(alloc, 7, 44)?;
+    Ok(lolib_text(alloc, &weights)?)
+}
+
+// The root is split, and each of two workers has one of its children in hand before either judges it.
+#[test]
+fn workers_beside_each_other(rt: HostRuntime) -> Result<(), Fail> {
+    let alloc = rt.alloc();
+    let gate = Meeting::new();
+    let mut memory = desk(alloc, &generated_text(alloc)?, b"", &[], 2000)?;
+    let words = words_of(alloc, "solve lolib a --workers 2 --nodes 3")?;
+    assert_eq!(rt; run(&rt, alloc, &words, &mut memory, &gate), 6);
+    assert!(rt; memory.printed().starts_with(b"objects 44\norder "));
+    assert!(rt; says(memory.printed(), "nodes", &["3"]));
+    assert!(rt; gate.both_met());
+    Ok(())
+}
+
+// What four workers leave is accepted with the same numbers.
+#[test]
+fn certificate_of_four_workers(rt: HostRuntime) -> Result<(), Fail> {
+    let alloc = rt.alloc();
+    let mut memory = desk(alloc, &generated_text(alloc)?, b"", &[], 10_000_000)?;
+    let solve = words_of(alloc, "solve lolib a --workers 4 --nodes 10 --cert c")?;
+    let check = words_of(alloc, "check lolib a c")?;
+    let ends = solve_then_check(&rt, alloc, &solve, &check, &mut memory, &OpenGate);
+    assert!(rt; ends.0 == 0 || ends.0 == 6);
+    assert_eq!(rt; ends.1, ends.0);
     Ok(())
 }

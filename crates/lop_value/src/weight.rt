@@ -3,7 +3,8 @@ ghost use Rattle.lop_model.specs.Matrix.{weight};
 
 use lop_model::{Order, Weights};
 
-/// The weight of an order: the sum of the entries above the diagonal once rows and columns stand in that order. O(n²).
+/// The weight of an order: the sum of the entries above the diagonal once rows and columns stand in that order. O(n²), row
+/// by row.
 pub fn value(weights: &Weights, order: &Order) -> i128
     requires { length order.now ≡ weights.now.size }
     ensures value { result ≡ weight weights.now order.now }
@@ -13,10 +14,10 @@ pub fn value(weights: &Weights, order: &Order) -> i128
     let n = order.n();
     prove_eq!(n, weights.n());
     let mut sum: i128 = 0;
-    for q in 0..n {
-        let last = order.at(q);
-        for p in 0..q {
-            sum += i128::from(weights.at(order.at(p), last));
+    for p in 0..n {
+        let first = order.at(p);
+        for q in p + 1..n {
+            sum += i128::from(weights.at(first, order.at(q)));
         }
     }
     sum

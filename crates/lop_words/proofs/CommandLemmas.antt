@@ -3,13 +3,13 @@ use Rattle.std.proofs.Common.{◌≡◌, ℕ, ◌≤◌, Bool, true, false, ◌&
 use Rattle.std.proofs.lemmas.Bool.{leb-true}
 use Rattle.std.specs.Prelude.{nat_le, Result, Ok, Err, IfOk}
 use Rattle.std.specs.Str.{bytes_eq}
-use Rattle.lop_desk.specs.Number.{digits_value}
+use Rattle.lop_desk.specs.Number.{digits_value, is_plain_word}
 use Rattle.lop_words.specs.declared.command.Command.{Command}
 use Rattle.lop_words.specs.declared.command.Command.TheVariants.{Solve, Check, Value, Gen}
 use Rattle.lop_words.specs.declared.command.Format.{Format}
 use Rattle.lop_words.specs.declared.command.WordsFault.{WordsFault}
-use Rattle.lop_words.specs.Word.{is_name_word, format_of, is_plain, is_budget, is_seed, is_size}
-use Rattle.lop_words.specs.Options.{value_of, are_options, budget_of, certificate_of}
+use Rattle.lop_words.specs.Word.{is_name_word, format_of, is_count, is_seed, is_size}
+use Rattle.lop_words.specs.Options.{value_of, are_options, number_or, workers_of, budget_of, certificate_of}
 use Rattle.lop_words.specs.Command.{command_of, gen_command, solve_options, formatted_command, verb_command, solve_command, solve_with, check_command, value_command, IsWithinLimits}
 
 -- a certificate, if there is one, has another name than the file
@@ -19,7 +19,7 @@ IsApart file (Some name) = bytes_eq name file ≡ false
 
 -- the numbers are within their limits, and the certificate has another name than the file
 abbrev IsSound : Command → Type 0
-IsSound (Solve format file nodes cert) = IsWithinLimits (Solve format file nodes cert) × IsApart file cert
+IsSound (Solve format file workers nodes cert) = IsWithinLimits (Solve format file workers nodes cert) × IsApart file cert
 IsSound other = IsWithinLimits other
 
 -- a plain number that passes both tests lies between them
@@ -32,13 +32,13 @@ between plain low high n is = by plain (nat_le low n) (nat_le n high) refl refl 
     by true false c above below is = absurd cc
     by false b c above below is = absurd cc
 
--- a budget that an option's value spells is within its limits
-budget_within : (value : Option (List ℕ)) (nodes : ℕ) → budget_of value ≡ Some nodes → (1 ≤ nodes) × (nodes ≤ 1000000)
-budget_within None nodes is = let same : 10000 ≡ nodes = cc in (omega (arith, same), omega (arith, same))
-budget_within (Some word) nodes is = by (is_budget word) refl is
+-- a number that an option's value spells is within its limits
+number_within : (other most : ℕ) (value : Option (List ℕ)) (n : ℕ) → 1 ≤ other → other ≤ most → number_or other most value ≡ Some n → (1 ≤ n) × (n ≤ most)
+number_within other most None n some less is = let same : other ≡ n = cc in (omega (arith, same, some), omega (arith, same, less))
+number_within other most (Some word) n some less is = by (is_count most word) refl is
   where
-    by : (t : Bool) → t ≡ is_budget word → cond t (Some (digits_value word)) None ≡ Some nodes → (1 ≤ nodes) × (nodes ≤ 1000000)
-    by true test is = let same : digits_value word ≡ nodes = cc in let P : ℕ → Type 0 = λ n. (1 ≤ n) × (n ≤ 1000000) in subst P same (between (is_plain word) 1 1000000 (digits_value word) (sym test))
+    by : (t : Bool) → t ≡ is_count most word → cond t (Some (digits_value word)) None ≡ Some n → (1 ≤ n) × (n ≤ most)
+    by true test is = let same : digits_value word ≡ n = cc in let P : ℕ → Type 0 = λ k. (1 ≤ k) × (k ≤ most) in subst P same (between (is_plain_word word) 1 most (digits_value word) (sym test))
     by false test is = absurd cc
 
 -- a certificate that an option's value names isn't FILE
@@ -65,16 +65,20 @@ module _ (command : Command) where
   where_true : (t : Bool) (x : Option Command) → (x ≡ Some command → IsSound command) → cond t x None ≡ Some command → IsSound command
   where_true t x sound is = either t x None sound (λ none. absurd cc) is
 
-  with_sound : (format : Format) (file : List ℕ) (value name : Option (List ℕ)) (nodes : Option ℕ) (cert : Option (Option (List ℕ)))
-      → nodes ≡ budget_of value → cert ≡ certificate_of file name → solve_with format file nodes cert ≡ Some command → IsSound command
-  with_sound format file value name None cert nodes_is cert_is is = absurd cc
-  with_sound format file value name (Some nodes) None nodes_is cert_is is = absurd cc
-  with_sound format file value name (Some nodes) (Some cert) nodes_is cert_is is =
-      the_one (Solve format file nodes cert) (budget_within value nodes (sym nodes_is), certificate_apart file name cert (sym cert_is)) is
+  with_sound : (format : Format) (file : List ℕ) (count value name : Option (List ℕ)) (workers nodes : Option ℕ) (cert : Option (Option (List ℕ)))
+      → workers ≡ workers_of count → nodes ≡ budget_of value → cert ≡ certificate_of file name → solve_with format file workers nodes cert ≡ Some command → IsSound command
+  with_sound format file count value name None nodes cert workers_is nodes_is cert_is is = absurd cc
+  with_sound format file count value name (Some workers) None cert workers_is nodes_is cert_is is = absurd cc
+  with_sound format file count value name (Some workers) (Some nodes) None workers_is nodes_is cert_is is = absurd cc
+  with_sound format file count value name (Some workers) (Some nodes) (Some cert) workers_is nodes_is cert_is is =
+      let few = number_within 1 16 count workers (omega arith) (omega arith) (sym workers_is) in
+      let many = number_within 10000 1000000 value nodes (omega arith) (omega arith) (sym nodes_is) in
+      the_one (Solve format file workers nodes cert) ((few.0, few.1, many.0, many.1), certificate_apart file name cert (sym cert_is)) is
 
   solve_sound : (format : Format) (file : List ℕ) (words : List (List ℕ)) → solve_command format file words ≡ Some command → IsSound command
   solve_sound format file words is =
-      where_true (are_options solve_options words) _ (λ with. with_sound format file (value_of (codes "--nodes") words) (value_of (codes "--cert") words) _ _ refl refl with) is
+      where_true (are_options solve_options words) _
+      (λ with. with_sound format file (value_of (codes "--workers") words) (value_of (codes "--nodes") words) (value_of (codes "--cert") words) _ _ _ refl refl refl with) is
 
   check_sound : (format : Format) (file : List ℕ) (words : List (List ℕ)) → check_command format file words ≡ Some command → IsSound command
   check_sound format file [] is = absurd cc
@@ -99,7 +103,7 @@ module _ (command : Command) where
   gen_sound seed n [] is = by (is_seed seed) (is_size n) refl is
     where
       by : (s t : Bool) → t ≡ is_size n → cond (s && t) (Some (Gen (digits_value seed) (digits_value n))) None ≡ Some command → IsSound command
-      by true true test is = the_one (Gen (digits_value seed) (digits_value n)) (between (is_plain n) 1 512 (digits_value n) (sym test)) is
+      by true true test is = the_one (Gen (digits_value seed) (digits_value n)) (between (is_plain_word n) 1 512 (digits_value n) (sym test)) is
       by true false test is = absurd cc
       by false t test is = absurd cc
   gen_sound seed n (word ∷ words) is = absurd cc
@@ -112,12 +116,12 @@ module _ (command : Command) where
   command_sound (verb ∷ first ∷ second ∷ words) is = either (bytes_eq verb (codes "gen")) _ _ (gen_sound first second words) (formatted_sound verb (format_of first) second words) is
 
 -- a command with a certificate names it otherwise than its file
-pub names_apart : (words : List (List ℕ)) (kind : Format) (f n : List ℕ) (k : ℕ) → command_of words ≡ Some (Solve kind f k (Some n)) → bytes_eq n f ≡ false
-names_apart words kind f n k is = (command_sound (Solve kind f k (Some n)) words is).1
+pub names_apart : (words : List (List ℕ)) (kind : Format) (f n : List ℕ) (w k : ℕ) → command_of words ≡ Some (Solve kind f w k (Some n)) → bytes_eq n f ≡ false
+names_apart words kind f n w k is = (command_sound (Solve kind f w k (Some n)) words is).1
 
 -- a sound command is within its limits
 within_limits : (command : Command) → IsSound command → IsWithinLimits command
-within_limits (Solve format file nodes cert) sound = sound.0
+within_limits (Solve format file workers nodes cert) sound = sound.0
 within_limits other sound = sound
 
 -- the numbers of a command are within their limits

@@ -6,22 +6,23 @@ use Rattle.lop_words.specs.declared.command.Command.{Command}
 use Rattle.lop_words.specs.declared.command.Command.TheVariants.{Solve, Check, Value, Gen}
 use Rattle.lop_words.specs.declared.command.Format.{Format}
 use Rattle.lop_words.specs.Word.{is_name_word, format_of, is_seed, is_size}
-use Rattle.lop_words.specs.Options.{value_of, are_options, budget_of, certificate_of}
+use Rattle.lop_words.specs.Options.{value_of, are_options, workers_of, budget_of, certificate_of}
 
 -- `solve` with what its options say
-abbrev pub solve_with : Format → List ℕ → Option ℕ → Option (Option (List ℕ)) → Option Command
-solve_with format file (Some nodes) (Some cert) = Some (Solve format file nodes cert)
-solve_with format file (Some nodes) None = None
-solve_with format file None cert = None
+abbrev pub solve_with : Format → List ℕ → Option ℕ → Option ℕ → Option (Option (List ℕ)) → Option Command
+solve_with format file (Some workers) (Some nodes) (Some cert) = Some (Solve format file workers nodes cert)
+solve_with format file (Some workers) (Some nodes) None = None
+solve_with format file (Some workers) None cert = None
+solve_with format file None nodes cert = None
 
 -- the options that `solve` takes
 abbrev pub solve_options : List (List ℕ)
-solve_options = codes "--nodes" ∷ codes "--cert" ∷ []
+solve_options = codes "--workers" ∷ codes "--nodes" ∷ codes "--cert" ∷ []
 
 -- behind FILE stand options of `solve`, in any order
 abbrev pub solve_command : Format → List ℕ → List (List ℕ) → Option Command
 solve_command format file words =
-    if are_options solve_options words then solve_with format file (budget_of (value_of (codes "--nodes") words)) (certificate_of file (value_of (codes "--cert") words)) else None
+    if are_options solve_options words then solve_with format file (workers_of (value_of (codes "--workers") words)) (budget_of (value_of (codes "--nodes") words)) (certificate_of file (value_of (codes "--cert") words)) else None
 
 -- behind FILE stands the certificate's name
 abbrev pub check_command : Format → List ℕ → List (List ℕ) → Option Command
@@ -58,8 +59,8 @@ command_of (verb ∷ []) = None
 command_of (verb ∷ first ∷ []) = None
 command_of (verb ∷ first ∷ second ∷ words) = if bytes_eq verb (codes "gen") then gen_command first second words else formatted_command verb (format_of first) second words
 
--- the budget of nodes, or the number of objects, is within its limits
+-- the numbers of workers, nodes and objects are within their limits
 abbrev pub IsWithinLimits : Command → Type 0
-IsWithinLimits (Solve format file nodes cert) = (1 ≤ nodes) × (nodes ≤ 1000000)
+IsWithinLimits (Solve format file workers nodes cert) = (1 ≤ workers) × (workers ≤ 16) × (1 ≤ nodes) × (nodes ≤ 1000000)
 IsWithinLimits (Gen seed n) = (1 ≤ n) × (n ≤ 512)
 IsWithinLimits other = ⊤

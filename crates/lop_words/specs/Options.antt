@@ -3,7 +3,7 @@ use Rattle.std.specs.Prelude.{ℕ, Bool, true, false, ◌&&◌, List, [], ◌∷
 use Rattle.std.specs.List.{list_any}
 use Rattle.std.specs.Str.{bytes_eq}
 use Rattle.lop_desk.specs.Number.{digits_value}
-use Rattle.lop_words.specs.Word.{is_name_word, is_budget}
+use Rattle.lop_words.specs.Word.{is_name_word, is_count}
 
 -- of words that alternate between options and their values, the value of the option of this name
 abbrev pub value_of : List ℕ → List (List ℕ) → Option (List ℕ)
@@ -25,10 +25,18 @@ are_options names [] = true
 are_options names (option ∷ []) = false
 are_options names (option ∷ value ∷ words) = is_new_option names option words && are_options names words
 
+-- the number from 1 to the greatest that an option's value spells, or another where the option isn't given
+abbrev pub number_or : ℕ → ℕ → Option (List ℕ) → Option ℕ
+number_or other most None = Some other
+number_or other most (Some value) = if is_count most value then Some (digits_value value) else None
+
+-- the number of workers, 1 where none is given
+abbrev pub workers_of : Option (List ℕ) → Option ℕ
+workers_of value = number_or 1 16 value
+
 -- the budget of nodes, 10,000 where none is given
 abbrev pub budget_of : Option (List ℕ) → Option ℕ
-budget_of None = Some 10000
-budget_of (Some value) = if is_budget value then Some (digits_value value) else None
+budget_of value = number_or 10000 1000000 value
 
 -- the certificate's name, if one is given; it isn't FILE
 abbrev pub certificate_of : List ℕ → Option (List ℕ) → Option (Option (List ℕ))

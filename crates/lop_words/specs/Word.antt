@@ -1,7 +1,7 @@
 -- The kinds of words.
-use Rattle.std.specs.Prelude.{ℕ, ◌^◌, Bool, false, ◌&&◌, ◌||◌, ◌==◌, not, nat_lt, nat_le, List, [], ◌∷◌, length, slice_index, codes, Option, None, Some, if◌then◌else◌}
+use Rattle.std.specs.Prelude.{ℕ, ◌^◌, Bool, false, ◌&&◌, ◌==◌, not, nat_lt, nat_le, List, [], ◌∷◌, codes, Option, None, Some, if◌then◌else◌}
 use Rattle.std.specs.Str.{bytes_eq}
-use Rattle.lop_desk.specs.Number.{all_digits, digits_value}
+use Rattle.lop_desk.specs.Number.{digits_value, is_plain_word}
 use Rattle.lop_words.specs.declared.command.Format.{Format}
 use Rattle.lop_words.specs.declared.command.Format.TheVariants.{Lolib, Preflib}
 
@@ -14,18 +14,22 @@ is_name_word (b ∷ bs) = not (b == 45)
 abbrev pub format_of : List ℕ → Option Format
 format_of word = if bytes_eq word (codes "lolib") then Some Lolib else (if bytes_eq word (codes "preflib") then Some Preflib else None)
 
--- `0`, or digits that don't begin with 0
-abbrev pub is_plain : List ℕ → Bool
-is_plain word = nat_lt 0 (length word) && all_digits word && (not (slice_index word 0 == 48) || length word == 1)
+-- a plain number from 1 to the greatest
+abbrev pub is_count : ℕ → List ℕ → Bool
+is_count most word = is_plain_word word && nat_le 1 (digits_value word) && nat_le (digits_value word) most
 
--- a plain number from 1 to 1,000,000
+-- a number of nodes
 abbrev pub is_budget : List ℕ → Bool
-is_budget word = is_plain word && nat_le 1 (digits_value word) && nat_le (digits_value word) 1000000
+is_budget word = is_count 1000000 word
+
+-- a number of workers
+abbrev pub is_workers : List ℕ → Bool
+is_workers word = is_count 16 word
+
+-- a number of objects
+abbrev pub is_size : List ℕ → Bool
+is_size word = is_count 512 word
 
 -- a plain number of 64 bits
 abbrev pub is_seed : List ℕ → Bool
-is_seed word = is_plain word && nat_lt (digits_value word) (2 ^ 64)
-
--- a plain number from 1 to 512
-abbrev pub is_size : List ℕ → Bool
-is_size word = is_plain word && nat_le 1 (digits_value word) && nat_le (digits_value word) 512
+is_seed word = is_plain_word word && nat_lt (digits_value word) (2 ^ 64)

@@ -13,10 +13,12 @@ pub enum Format {
 /// What the words ask for.
 #[derive(Drop)]
 pub enum Command {
-    /// Solve the file with at most so many evaluated nodes, and with a name, write a certificate there.
+    /// Solve the file by so many workers, with at most so many evaluated nodes, and with a name, write a certificate
+    /// there.
     Solve {
         format: Format,
         file: NameWord,
+        workers: u32,
         nodes: u32,
         cert: Option<NameWord>,
     },

@@ -1,8 +1,9 @@
 // Options and their values.
-ghost use Rattle.std.specs.Prelude.{◌≡◌, Option, None, Some, map, option_map, IfOk, IfErr, MatchOption};
+ghost use Rattle.std.specs.Prelude.{◌≡◌, true, false, Option, None, Some, map, option_map, IfOk, IfErr, MatchOption};
 ghost use Rattle.std.specs.String.{string_bytes};
-ghost use Rattle.lop_words.specs.Word.{is_budget};
-ghost use Rattle.lop_words.specs.Options.{value_of, is_option, is_new_option, are_options, budget_of, certificate_of};
+ghost use Rattle.lop_desk.specs.Number.{digits_value};
+ghost use Rattle.lop_words.specs.Word.{is_count};
+ghost use Rattle.lop_words.specs.Options.{value_of, is_option, is_new_option, are_options, number_or, workers_of, budget_of, certificate_of};
 ghost use Rattle.lop_words.specs.WordsFault.{IsWordsFault};
 
 use crate::command::WordsFault;
@@ -10,10 +11,15 @@ use crate::name::NameWord;
 use lop_desk::plain_number;
 use std::alloc::Global;
 
+// The number of workers where none is given, and the greatest one.
+const DEFAULT_WORKERS: u32 = 1;
+
+const MOST_WORKERS: u32 = 16;
+
 // The number of nodes where none is given, and the greatest one.
 const DEFAULT_NODES: u32 = 10_000;
 
-const MOST_NODES: u64 = 1_000_000;
+const MOST_NODES: u32 = 1_000_000;
 
 /// Whether the words are options of these names, each with its value, and none stands twice.
 pub fn are_options(names: &[&str], words: &[String]) -> bool
@@ -63,21 +69,36 @@ pub fn value_of<'a>(name: &str, words: &'a [String]) -> Option<&'a str>
     None
 }
 
+/// The number of workers that the option's value spells.
+pub fn workers(value: Option<&str>) -> Option<u32>
+    ensures { result ≡ workers_of (option_map (λ s. s.now) value.entry) }
+{
+    number_or(DEFAULT_WORKERS, MOST_WORKERS, value)
+}
+
 /// The number of nodes that the option's value spells.
 pub fn budget(value: Option<&str>) -> Option<u32>
     ensures { result ≡ budget_of (option_map (λ s. s.now) value.entry) }
 {
+    number_or(DEFAULT_NODES, MOST_NODES, value)
+}
+
+// The number from 1 to the greatest that the option's value spells, or another where the option isn't given.
+fn number_or(other: u32, most: u32, value: Option<&str>) -> Option<u32>
+    ensures { result ≡ number_or other most (option_map (λ s. s.now) value.entry) }
+{
     match value {
-        None => Some(DEFAULT_NODES),
-        Some(word) => number_of_nodes(word),
+        None => Some(other),
+        Some(word) => count(most, word),
     }
 }
 
-fn number_of_nodes(word: &str) -> Option<u32>
-    ensures { result ≡ budget_of (Some word.now) }
+/// The number from 1 to the greatest that the word spells.
+pub fn count(most: u32, word: &str) -> Option<u32>
+    ensures { MatchOption result (is_count most word.now ≡ false) (λ n. (is_count most word.now ≡ true) × (n ≡ digits_value word.now)) }
 {
     match plain_number(word.as_bytes()) {
-        Some(nodes) if nodes >= 1 && nodes <= MOST_NODES => Some(nodes as u32),
+        Some(n) if n >= 1 && n <= most as u64 => Some(n as u32),
         _ => None,
     }
 }

@@ -8,15 +8,15 @@ ghost use Rattle.lop_words.specs.WordsFault.{IsWordsFault};
 
 use crate::command::{Command, Format, WordsFault};
 use crate::name::NameWord;
-use crate::options::{are_options, budget, certificate, value_of};
+use crate::options::{are_options, budget, certificate, count, value_of, workers};
 use lop_desk::plain_number;
 use std::alloc::Global;
 
 // The greatest number of objects.
-const MOST_OBJECTS: u64 = 512;
+const MOST_OBJECTS: u32 = 512;
 
 // The options that `solve` takes.
-const SOLVE_OPTIONS: [&str; 2] = ["--nodes", "--cert"];
+const SOLVE_OPTIONS: [&str; 3] = ["--workers", "--nodes", "--cert"];
 
 /// The command that the words after the program's name spell, in words of its own. O(bytes of the words).
 pub fn read_words(alloc: Global, words: &[String]) -> Result<Command, WordsFault>
@@ -56,9 +56,9 @@ fn seed_of(word: &str) -> Option<u64>
 fn size_of(word: &str) -> Option<u16>
     ensures { MatchOption result (is_size word.now ≡ false) (λ n. (is_size word.now ≡ true) × (n ≡ digits_value word.now)) }
 {
-    match plain_number(word.as_bytes()) {
-        Some(n) if n >= 1 && n <= MOST_OBJECTS => Some(n as u16),
-        _ => None,
+    match count(MOST_OBJECTS, word) {
+        Some(n) => Some(n as u16),
+        None => None,
     }
 }
 
@@ -107,6 +107,9 @@ fn solve_words(
     if !are_options(&SOLVE_OPTIONS, words) {
         return Err(WordsFault::Usage);
     }
+    let Some(workers) = workers(value_of("--workers", words)) else {
+        return Err(WordsFault::Usage);
+    };
     let Some(nodes) = budget(value_of("--nodes", words)) else {
         return Err(WordsFault::Usage);
     };
@@ -114,6 +117,7 @@ fn solve_words(
     Ok(Command::Solve {
         format,
         file,
+        workers,
         nodes,
         cert,
     })

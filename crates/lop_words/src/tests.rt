@@ -26,6 +26,7 @@ fn shown(alloc: Global, command: &Command) -> Result<String, AllocError> {
         Command::Solve {
             format,
             file,
+            workers,
             nodes,
             cert,
         } => {
@@ -34,7 +35,7 @@ fn shown(alloc: Global, command: &Command) -> Result<String, AllocError> {
                 None => "-",
             };
             let format = format_name(*format);
-            format!(in alloc; "solve {format} {} {nodes} {cert}", file.text())
+            format!(in alloc; "solve {format} {} {workers} {nodes} {cert}", file.text())
         }
         Command::Check { format, file, cert } => {
             let format = format_name(*format);
@@ -70,108 +71,130 @@ fn refuses(rt: &impl Abort, alloc: Global, words: &[&str]) -> Result<(), Fail> {
     Ok(())
 }
 
+fn words_of<'a>(alloc: Global, line: &'a str) -> Result<Vec<&'a str>, AllocError> {
+    line.split(' ').collect(alloc)
+}
+
+/// A line of words, which single blanks part, and the command that they are.
+const READ: &[(&str, &str)] = &[
+    ("solve lolib a", "solve lolib a 1 10000 -"),
+    ("solve lolib a --nodes 1", "solve lolib a 1 1 -"),
+    ("solve lolib a --workers 1", "solve lolib a 1 10000 -"),
+    ("solve lolib a --workers 16", "solve lolib a 16 10000 -"),
+    ("solve lolib a --nodes 1 --cert c", "solve lolib a 1 1 c"),
+    (
+        "solve lolib a --cert c --workers 2 --nodes 9",
+        "solve lolib a 2 9 c",
+    ),
+    (
+        "solve preflib b- --cert é --nodes 1000000",
+        "solve preflib b- 1 1000000 é",
+    ),
+    ("solve preflib b- --cert é", "solve preflib b- 1 10000 é"),
+    ("check lolib a a", "check lolib a a"),
+    ("check preflib a c", "check preflib a c"),
+    ("value lolib a o", "value lolib a o"),
+    ("value preflib é é", "value preflib é é"),
+    ("gen 0 1", "gen 0 1"),
+    ("gen 600 512", "gen 600 512"),
+    ("gen 18446744073709551615 3", "gen 18446744073709551615 3"),
+];
+
 #[test]
 fn commands(rt: HostRuntime) -> Result<(), Fail> {
     let a = rt.alloc();
-    let solve = ["solve", "lolib", "a", "--nodes", "1", "--cert", "c"];
-    reads(&rt, a, &solve[..3], "solve lolib a 10000 -")?;
-    reads(&rt, a, &solve[..5], "solve lolib a 1 -")?;
-    reads(&rt, a, &solve, "solve lolib a 1 c")?;
-    let solve = [
-        "solve", "preflib", "b-", "--cert", "--nodes", "--nodes", "7",
-    ];
-    refuses(&rt, a, &solve)?;
-    let solve = [
-        "solve", "preflib", "b-", "--cert", "é", "--nodes", "1000000",
-    ];
-    reads(&rt, a, &solve, "solve preflib b- 1000000 é")?;
-    reads(&rt, a, &solve[..5], "solve preflib b- 10000 é")?;
-    reads(&rt, a, &["check", "lolib", "a", "a"], "check lolib a a")?;
-    reads(&rt, a, &["check", "preflib", "a", "c"], "check preflib a c")?;
-    reads(&rt, a, &["value", "lolib", "a", "o"], "value lolib a o")?;
-    reads(&rt, a, &["value", "preflib", "é", "é"], "value preflib é é")?;
+    for (line, command) in READ {
+        reads(&rt, a, &words_of(a, line)?, command)?;
+    }
     Ok(())
 }
 
-#[test]
-fn generated(rt: HostRuntime) -> Result<(), Fail> {
-    let a = rt.alloc();
-    reads(&rt, a, &["gen", "0", "1"], "gen 0 1")?;
-    reads(&rt, a, &["gen", "600", "512"], "gen 600 512")?;
-    let greatest = "18446744073709551615";
-    reads(
-        &rt,
-        a,
-        &["gen", greatest, "3"],
-        "gen 18446744073709551615 3",
-    )?;
-    for seed in ["18446744073709551616", "01", "+1", "-1", "", "1a"] {
-        refuses(&rt, a, &["gen", seed, "3"])?;
-    }
-    for n in ["0", "513", "03", "65537", "18446744073709551617", "", "n"] {
-        refuses(&rt, a, &["gen", "1", n])?;
-    }
-    refuses(&rt, a, &["gen"])?;
-    refuses(&rt, a, &["gen", "1"])?;
-    refuses(&rt, a, &["gen", "1", "3", "4"])?;
-    refuses(&rt, a, &["gen", "1", "3", "--nodes", "5"])?;
-    refuses(&rt, a, &["gen", "lolib", "a"])?;
-    Ok(())
-}
+/// Lines whose words, which single blanks part, are no command.
+const REFUSED: &[&str] = &[
+    "",
+    "solve lolib",
+    "solve lolib ",
+    "solve lolib -a",
+    "solve other a",
+    "Solve lolib a",
+    "solve --nodes 3 lolib a",
+    "solve --workers 3 lolib a",
+    "solve lolib a b",
+    "check lolib a",
+    "check lolib a -c",
+    "check lolib a c --nodes 3",
+    "check lolib a c --workers 3",
+    "value lolib a",
+    "value lolib a -o",
+    "value lolib a ",
+    "value lolib -a o",
+    "value other a o",
+    "value lolib a o x",
+    "value lolib a o --workers 1",
+    "values lolib a o",
+    "gen",
+    "gen 1",
+    "gen 1 3 4",
+    "gen 1 3 --nodes 5",
+    "gen 1 3 --workers 1",
+    "gen lolib a",
+    "gen 18446744073709551616 3",
+    "gen 01 3",
+    "gen +1 3",
+    "gen -1 3",
+    "gen  3",
+    "gen 1a 3",
+    "gen 1 0",
+    "gen 1 513",
+    "gen 1 03",
+    "gen 1 65537",
+    "gen 1 18446744073709551617",
+    "gen 1 ",
+    "gen 1 n",
+];
+
+/// The same for what stands behind `solve lolib a`.
+const NO_OPTIONS: &[&str] = &[
+    "--workers",
+    "--workers=2",
+    "--workers 0",
+    "--workers 17",
+    "--workers 02",
+    "--workers +2",
+    "--workers ",
+    "--workers x",
+    "--workers 4294967297",
+    "--workers 18446744073709551617",
+    "--workers 2 --workers 2",
+    "--worker 2",
+    "-w 2",
+    "--nodes",
+    "--nodes=2",
+    "--nodes 0",
+    "--nodes 010",
+    "--nodes +1",
+    "--nodes 1000001",
+    "--nodes 18446744073709551616",
+    "--nodes ",
+    "--nodes --",
+    "--nodes 2 --nodes 2",
+    "--cert --nodes --nodes 7",
+    "--cert c --cert d",
+    "--cert -",
+    "--cert a",
+];
 
 #[test]
 fn no_commands(rt: HostRuntime) -> Result<(), Fail> {
     let a = rt.alloc();
     refuses(&rt, a, &[])?;
-    refuses(&rt, a, &["solve", "lolib"])?;
-    refuses(&rt, a, &["solve", "lolib", ""])?;
-    refuses(&rt, a, &["solve", "lolib", "-a"])?;
-    refuses(&rt, a, &["solve", "other", "a"])?;
-    refuses(&rt, a, &["Solve", "lolib", "a"])?;
-    refuses(&rt, a, &["solve", "--nodes", "3", "lolib", "a"])?;
-    refuses(&rt, a, &["solve", "lolib", "a", "--cert", "a"])?;
-    refuses(&rt, a, &["solve", "lolib", "a", "--workers", "17"])?;
-    refuses(&rt, a, &["check", "lolib", "a"])?;
-    refuses(&rt, a, &["check", "lolib", "a", "-c"])?;
-    refuses(&rt, a, &["check", "lolib", "a", "c", "--nodes", "3"])?;
-    refuses(&rt, a, &["value", "lolib", "a"])?;
-    refuses(&rt, a, &["value", "lolib", "a", "-o"])?;
-    refuses(&rt, a, &["value", "lolib", "a", ""])?;
-    refuses(&rt, a, &["value", "lolib", "-a", "o"])?;
-    refuses(&rt, a, &["value", "other", "a", "o"])?;
-    refuses(&rt, a, &["value", "lolib", "a", "o", "x"])?;
-    refuses(&rt, a, &["values", "lolib", "a", "o"])?;
-    Ok(())
-}
-
-#[test]
-fn no_options(rt: HostRuntime) -> Result<(), Fail> {
-    let a = rt.alloc();
-    for nodes in [
-        "0",
-        "010",
-        "+1",
-        "1000001",
-        "18446744073709551616",
-        "",
-        "--",
-    ] {
-        refuses(&rt, a, &["solve", "lolib", "a", "--nodes", nodes])?;
+    for line in REFUSED {
+        refuses(&rt, a, &words_of(a, line)?)?;
     }
-    refuses(&rt, a, &["solve", "lolib", "a", "--nodes"])?;
-    refuses(&rt, a, &["solve", "lolib", "a", "--nodes=2"])?;
-    refuses(
-        &rt,
-        a,
-        &["solve", "lolib", "a", "--nodes", "2", "--nodes", "2"],
-    )?;
-    refuses(
-        &rt,
-        a,
-        &["solve", "lolib", "a", "--cert", "c", "--cert", "d"],
-    )?;
-    refuses(&rt, a, &["solve", "lolib", "a", "--cert", "-"])?;
-    refuses(&rt, a, &["solve", "lolib", "a", "b"])?;
+    for options in NO_OPTIONS {
+        let line = format!(in a; "solve lolib a {options}")?;
+        refuses(&rt, a, &words_of(a, line.as_str())?)?;
+    }
     Ok(())
 }
 
@@ -187,6 +210,11 @@ fn with_file<'a>(alloc: Global, verb: &'a str) -> Result<clap::Command<'a>, clap
 // The same commands, as `clap` reads them.
 fn clap_matches<'a>(alloc: Global, words: &'a [&'a str]) -> Result<ArgMatches<'a>, clap::Error> {
     let solve = with_file(alloc, "solve")?
+        .arg(
+            Arg::new(alloc, "workers")
+                .long("workers")
+                .default_value("1"),
+        )?
         .arg(
             Arg::new(alloc, "nodes")
                 .long("nodes")
@@ -221,20 +249,27 @@ fn agrees_with_clap(rt: &impl Abort, alloc: Global, words: &[&str]) -> Result<()
 // The arguments of a command, in the order in which it is shown.
 fn names_behind(verb: &str) -> &'static [&'static str] {
     match verb {
-        "solve" => &["format", "file", "nodes", "cert"],
+        "solve" => &["format", "file", "workers", "nodes", "cert"],
         "check" => &["format", "file", "cert"],
         "value" => &["format", "file", "order"],
         _ => &["seed", "n"],
     }
 }
 
+const AS_CLAP_READS: &[&str] = &[
+    "solve lolib sectors.txt",
+    "solve lolib sectors.txt --nodes 7 --workers 3",
+    "check lolib tie.txt tie.cert",
+    "solve preflib lunch.soc --cert c",
+    "value lolib tie.txt tie.order",
+    "gen 7 12",
+];
+
 #[test]
 fn clap_agrees(rt: HostRuntime) -> Result<(), Fail> {
     let a = rt.alloc();
-    agrees_with_clap(&rt, a, &["solve", "lolib", "sectors.txt"])?;
-    agrees_with_clap(&rt, a, &["check", "lolib", "tie.txt", "tie.cert"])?;
-    agrees_with_clap(&rt, a, &["solve", "preflib", "lunch.soc"])?;
-    agrees_with_clap(&rt, a, &["value", "lolib", "tie.txt", "tie.order"])?;
-    agrees_with_clap(&rt, a, &["gen", "7", "12"])?;
+    for line in AS_CLAP_READS {
+        agrees_with_clap(&rt, a, &words_of(a, line)?)?;
+    }
     Ok(())
 }

@@ -1,4 +1,4 @@
-use Rattle.std.proofs.Common.{◌≡◌, true, false}
+use Rattle.std.proofs.Common.{◌≡◌, true}
 use Rattle.lop_ascent.proofs.hints.is_same.Goals as goal
 
 pub returns-clause-equal : goal.returns-clause-equal

@@ -1,4 +1,4 @@
-use Rattle.std.proofs.Common.{rules, ◌≡◌, ◌∙◌, sym, arith}
+use Rattle.std.proofs.Common.{rules, ◌∙◌, arith}
 use Rattle.lop_ascent.proofs.PointLemmas.{none_written, row_begun, row_written, write_next, all_written}
 use Rattle.lop_ascent.proofs.point.write_point.Goals as goal
 

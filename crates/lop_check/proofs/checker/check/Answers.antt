@@ -1,18 +1,24 @@
-use Rattle.std.proofs.Common.{rules}
-use Rattle.std.specs.Prelude.{IfSome}
-use Rattle.lop_desk.specs.World.{unread}
-use Rattle.lop_model.specs.Closing.{closed}
-use Rattle.lop_certtext.specs.Answer.{check_answer}
-use Rattle.lop_check.specs.Verdict.{Says}
-use Rattle.lop_check.proofs.Exact.{answer_told, exact_told}
+use Rattle.lop_check.proofs.Walk.{starts}
+use Rattle.lop_check.proofs.Exact.{ended}
 use Rattle.lop_check.proofs.checker.check.Goals as goal
 
+pub walk-ending-requires-clause-reading : goal.walk-ending-requires-clause-reading
+walk-ending-requires-clause-reading g c = starts _ c.requires.opened c.start.ensures.lines c.start.ensures.number
+
 pub returns-clause-answer : goal.returns-clause-answer
-returns-clause-answer g c =
-    let answer : IfSome (g.D.Desk.told c.args.desk.now) (λ w. Says (check_answer closed c.args.weights.now (unread w)) c.version_step.result) = search rules in
-    answer_told c.args.weights.now _ c.version_step.result answer
+returns-clause-answer g c = (ended c.args.weights.now _ _ c.walk-ending.result c.verdict_of.result c.n.ensures.weights c.start.ensures.lines c.start.ensures.number c.walk-ending.ensures.reads c.verdict_of.ensures).answered_is.answer
 
 pub returns-clause-exact : goal.returns-clause-exact
-returns-clause-exact g c =
-    let answer : IfSome (g.D.Desk.told c.args.desk.now) (λ w. Says (check_answer closed c.args.weights.now (unread w)) c.version_step.result) = search rules in
-    exact_told c.args.weights.now _ c.version_step.result c.n.ensures.weights (answer_told c.args.weights.now _ c.version_step.result answer)
+returns-clause-exact g c = (ended c.args.weights.now _ _ c.walk-ending.result c.verdict_of.result c.n.ensures.weights c.start.ensures.lines c.start.ensures.number c.walk-ending.ensures.reads c.verdict_of.ensures).answered_is.exact_is
+
+pub returns-clause-bounded : goal.returns-clause-bounded
+returns-clause-bounded g c = (ended c.args.weights.now _ _ c.walk-ending.result c.verdict_of.result c.n.ensures.weights c.start.ensures.lines c.start.ensures.number c.walk-ending.ensures.reads c.verdict_of.ensures).answered_is.bounded
+
+pub returns-clause-world : goal.returns-clause-world
+returns-clause-world g c = (ended c.args.weights.now _ _ c.walk-ending.result c.verdict_of.result c.n.ensures.weights c.start.ensures.lines c.start.ensures.number c.walk-ending.ensures.reads c.verdict_of.ensures).world
+
+pub returns-clause-later : goal.returns-clause-later
+returns-clause-later g c = (ended c.args.weights.now _ _ c.walk-ending.result c.verdict_of.result c.n.ensures.weights c.start.ensures.lines c.start.ensures.number c.walk-ending.ensures.reads c.verdict_of.ensures).later
+
+pub returns-clause-cause : goal.returns-clause-cause
+returns-clause-cause g c = (ended c.args.weights.now _ _ c.walk-ending.result c.verdict_of.result c.n.ensures.weights c.start.ensures.lines c.start.ensures.number c.walk-ending.ensures.reads c.verdict_of.ensures).cause

@@ -1,6 +1,6 @@
-use Rattle.std.proofs.Common.{◌≡◌, ◌≢◌, ◌+◌, refl, true, false, List, ℕ, sym, subst, ◌∙◌}
+use Rattle.std.proofs.Common.{◌≡◌, ◌+◌, refl, true, false, List, ℕ, sym, subst, ◌∙◌}
 use Rattle.lop_check.specs.Trail.{is_from}
-use Rattle.lop_check.proofs.DepthLemmas.{AllNotedTo, all_noted-none, all_noted-row, all_noted-skip, not_b, Notes-all}
+use Rattle.lop_check.proofs.DepthLemmas.{AllNotedTo, all_noted-none, all_noted-row, all_noted-skip, not_b}
 use Rattle.lop_check.proofs.depths.note.Goals.{then-is_from, else-is_from}
 use Rattle.lop_check.proofs.depths.note.Goals as goal
 

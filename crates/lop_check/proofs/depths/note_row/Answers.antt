@@ -1,6 +1,6 @@
-use Rattle.std.proofs.Common.{◌≡◌, ◌+◌, ◌*◌, true, false, refl, List, ℕ, sym, subst, ◌∙◌}
+use Rattle.std.proofs.Common.{◌≡◌, ◌+◌, true, false, List, ℕ, sym, subst, ◌∙◌}
 use Rattle.lop_check.specs.Trail.{is_new}
-use Rattle.lop_check.proofs.DepthLemmas.{NotedTo, noted-none, noted-write, noted-skip, NotesRow-all}
+use Rattle.lop_check.proofs.DepthLemmas.{NotedTo, noted-write, noted-skip}
 use Rattle.lop_check.proofs.depths.note_row.Goals.{then-is_new, else-is_new}
 use Rattle.lop_check.proofs.depths.note_row.Goals as goal
 

@@ -1,4 +1,4 @@
-use Rattle.std.proofs.Common.{◌≡◌, ◌+◌, ◌*◌, true, false, eqb, List, ℕ, sym, subst, ◌∙◌}
+use Rattle.std.proofs.Common.{◌≡◌, ◌+◌, true, false, eqb, List, ℕ, sym, subst, ◌∙◌}
 use Rattle.lop_model.specs.Cells.{cell}
 use Rattle.lop_check.proofs.DepthLemmas.{TakenTo, taken-write, taken-skip}
 use Rattle.lop_check.proofs.depths.take_row.Goals.{then-is_depth, else-is_depth}

@@ -7,8 +7,8 @@ use Rattle.lop_certtext.specs.LeafLine.{LeafTerms, terms_of, is_leaf_row, leaf_o
 use Rattle.lop_certtext.specs.Answer.{CheckAnswer, leaf_step}
 use Rattle.lop_check.specs.Verdict.{Says}
 use Rattle.lop_check.specs.declared.verdict.Verdict.{Verdict}
-use Rattle.lop_check.specs.Standing.{pending, pending_if}
-use Rattle.lop_check.specs.Nodes.{place, StaysCovered}
+use Rattle.lop_check.specs.TreePlace.{pending_if}
+use Rattle.lop_check.specs.Nodes.{place}
 use Rattle.lop_check.proofs.NodeLemmas.{leaf_read}
 use Rattle.lop_check.proofs.node.leaf_step.Goals as goal
 
@@ -37,11 +37,6 @@ returns-else-not-is_leaf_row-clause-passes c =
     ∙ ap (λ (l : List ℤ). Some (record { scale = c.unsigned_abs-scale.result; terms = terms_of l })) (sym (take_rest ns 2)) in
     subst (λ (o : Option LeafTerms). IfOk c.shown_step.result (λ more. (next : List (List Pair) → CheckAnswer) → leaf_step C cuts c.args.bound c.args.proof.now.trail.fixed at.others c.args.number o next ≡ next (pending_if more (place c.shown_step.new.proof)))) (sym made)
     (subst (λ (b : ℤ). IfOk c.shown_step.result (λ more. (next : List (List Pair) → CheckAnswer) → leaf_step C cuts b c.args.proof.now.trail.fixed at.others c.args.number (Some (record { scale = c.unsigned_abs-scale.result; terms = terms_of (take (length ns - 2) (drop 2 ns)) })) next ≡ next (pending_if more (place c.shown_step.new.proof)))) (to_z-of_z w64 c.args.bound fits) c.shown_step.ensures.passes)
-
-pub returns-else-not-is_leaf_row-clause-covers : goal.returns-else-not-is_leaf_row-clause-covers
-returns-else-not-is_leaf_row-clause-covers c =
-    let fits : FitsSigned w64 c.args.bound = c.ranges.bound in
-    subst (λ (b : ℤ). IfOk c.shown_step.result (λ more. StaysCovered c.args.weights.now b (pending (place c.args.proof.now)) (pending_if more (place c.shown_step.new.proof)))) (to_z-of_z w64 c.args.bound fits) c.shown_step.ensures.covers
 
 pub returns-else-not-is_leaf_row-clause-fails : goal.returns-else-not-is_leaf_row-clause-fails
 returns-else-not-is_leaf_row-clause-fails c =

@@ -3,8 +3,8 @@ use Rattle.std.specs.Prelude.{IfOk, IfErr}
 use Rattle.std.proofs.lemmas.Int.{to_z-of_z}
 use Rattle.lop_certtext.specs.declared.word.CertWord.{CertWord}
 use Rattle.lop_certtext.specs.declared.word.CertWord.TheVariants as words
-use Rattle.lop_check.specs.Standing.{pending, pending_if}
-use Rattle.lop_check.specs.Nodes.{place, Passes, Fails, StaysCovered}
+use Rattle.lop_check.specs.TreePlace.{pending_if}
+use Rattle.lop_check.specs.Nodes.{place, Passes, Fails}
 use Rattle.lop_check.proofs.node.node_step.Goals as goal
 
 pub returns-in-SplitLine-clause-passes : goal.returns-in-SplitLine-clause-passes
@@ -12,11 +12,6 @@ returns-in-SplitLine-clause-passes c =
     let fits : FitsSigned w64 c.args.bound = c.ranges.bound in
     subst (λ (w : CertWord). IfOk c.split_step.result (λ more. Passes c.args.weights.now c.args.proof.now.cuts.items c.args.bound c.args.proof.now.trail.fixed (place c.args.proof.now) c.args.number w c.args.numbers.now (pending_if more (place c.split_step.new.proof)))) (sym c.in-SplitLine.is)
     (subst (λ (b : ℤ). IfOk c.split_step.result (λ more. Passes c.args.weights.now c.args.proof.now.cuts.items b c.args.proof.now.trail.fixed (place c.args.proof.now) c.args.number words.SplitLine c.args.numbers.now (pending_if more (place c.split_step.new.proof)))) (to_z-of_z w64 c.args.bound fits) c.split_step.ensures.passes)
-
-pub returns-in-SplitLine-clause-covers : goal.returns-in-SplitLine-clause-covers
-returns-in-SplitLine-clause-covers c =
-    let fits : FitsSigned w64 c.args.bound = c.ranges.bound in
-    subst (λ (b : ℤ). IfOk c.split_step.result (λ more. StaysCovered c.args.weights.now b (pending (place c.args.proof.now)) (pending_if more (place c.split_step.new.proof)))) (to_z-of_z w64 c.args.bound fits) c.split_step.ensures.covers
 
 pub returns-in-SplitLine-clause-fails : goal.returns-in-SplitLine-clause-fails
 returns-in-SplitLine-clause-fails c =
@@ -29,11 +24,6 @@ returns-in-Leaf-clause-passes c =
     let fits : FitsSigned w64 c.args.bound = c.ranges.bound in
     subst (λ (w : CertWord). IfOk c.leaf_step.result (λ more. Passes c.args.weights.now c.args.proof.now.cuts.items c.args.bound c.args.proof.now.trail.fixed (place c.args.proof.now) c.args.number w c.args.numbers.now (pending_if more (place c.leaf_step.new.proof)))) (sym c.in-Leaf.is)
     (subst (λ (b : ℤ). IfOk c.leaf_step.result (λ more. Passes c.args.weights.now c.args.proof.now.cuts.items b c.args.proof.now.trail.fixed (place c.args.proof.now) c.args.number words.Leaf c.args.numbers.now (pending_if more (place c.leaf_step.new.proof)))) (to_z-of_z w64 c.args.bound fits) c.leaf_step.ensures.passes)
-
-pub returns-in-Leaf-clause-covers : goal.returns-in-Leaf-clause-covers
-returns-in-Leaf-clause-covers c =
-    let fits : FitsSigned w64 c.args.bound = c.ranges.bound in
-    subst (λ (b : ℤ). IfOk c.leaf_step.result (λ more. StaysCovered c.args.weights.now b (pending (place c.args.proof.now)) (pending_if more (place c.leaf_step.new.proof)))) (to_z-of_z w64 c.args.bound fits) c.leaf_step.ensures.covers
 
 pub returns-in-Leaf-clause-fails : goal.returns-in-Leaf-clause-fails
 returns-in-Leaf-clause-fails c =

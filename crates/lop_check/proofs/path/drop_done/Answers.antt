@@ -2,7 +2,7 @@ use Rattle.std.proofs.Common.{◌≡◌, ◌∷◌, [], ◌++◌, ◌-◌, ◌<�
 use Rattle.std.specs.Option.{option_to_list}
 use Rattle.std.specs.Vec.{vec_len}
 use Rattle.lop_check.specs.declared.path.Step.{Step}
-use Rattle.lop_check.specs.Standing.{standing, IsWalk}
+use Rattle.lop_check.specs.TreePlace.{place_after, IsWalk}
 use Rattle.lop_check.proofs.PathLemmas.{others-done, some_path, IsWalk-front}
 use Rattle.lop_check.proofs.path.drop_done.Goals as goal
 
@@ -29,6 +29,6 @@ loop-last-preserved c =
     let popped : c.pop.result ≡ Some s = c.pop.ensures.value s some ∙ ap (λ k. Some (get_or items (k - 1) s)) len ∙ ap (λ (x : Step). Some x) (sym read) in
     let split : items ≡ rest ++ s ∷ [] = c.pop.ensures.items ∙ ap (λ (o : Option Step). rest ++ option_to_list o) popped in
     record {
-      others = sym (ap (λ (l : List Step). (standing l).others) split ∙ others-done rest s c.if-last.false) ∙ c.loop-last.invariant.others;
+      others = sym (ap (λ (l : List Step). (place_after l).others) split ∙ others-done rest s c.if-last.false) ∙ c.loop-last.invariant.others;
       walk = IsWalk-front c.args.n rest s c.loop-last.trail c.ascend.new.self (subst (λ (l : List Step). IsWalk c.args.n l c.loop-last.trail) split c.loop-last.invariant.walk) c.ascend.ensures.size c.ascend.ensures.path c.ascend.ensures.closure;
     }

@@ -1,10 +1,10 @@
 use Rattle.std.proofs.Common.{◌≡◌, length}
-use Rattle.lop_check.specs.Standing.{standing, IsWalk}
+use Rattle.lop_check.specs.TreePlace.{place_after, IsWalk}
 use Rattle.lop_check.proofs.path.drop_done.Given as goal
 
 abbrev pub invariant-loop-last : goal.invariant-loop-last
 invariant-loop-last l = record {
-  others : (standing l.steps.items).others ≡ (standing l.fn.steps.items).others;
+  others : (place_after l.steps.items).others ≡ (place_after l.fn.steps.items).others;
   walk : IsWalk l.n l.steps.items l.trail;
 }
 

@@ -1,8 +1,7 @@
-use Rattle.std.proofs.Common.{◌≡◌, ◌∷◌, [], ◌++◌, sym, subst, ap, true, ℕ, List}
+use Rattle.std.proofs.Common.{◌≡◌, ◌∷◌, [], ◌++◌, subst, true, List}
 use Rattle.lop_model.specs.declared.pair.Pair.{Pair}
 use Rattle.lop_model.specs.Fixings.{IsUndecided}
 use Rattle.lop_check.specs.declared.path.Step.{Step}
-use Rattle.lop_check.specs.Standing.{standing, IsWalk}
 use Rattle.lop_check.proofs.PathLemmas.{IsWalk-push}
 use Rattle.lop_check.proofs.path.enter.Goals as goal
 

@@ -1,7 +1,7 @@
 use Rattle.std.proofs.Common.{◌≡◌, ◌∷◌, [], ◌++◌, ◌-◌, sym, ap, ◌∙◌, subst, arith, false, List, length, set}
 use Rattle.lop_model.specs.declared.pair.Pair.{Pair}
 use Rattle.lop_model.specs.Reversed.{reversed}
-use Rattle.lop_check.specs.Standing.{standing, pending, IsWalk}
+use Rattle.lop_check.specs.TreePlace.{place_after, pending, IsWalk}
 use Rattle.lop_check.specs.declared.path.Step.{Step}
 use Rattle.lop_check.proofs.PathLemmas.{some_path, IsWalk-front, IsWalk-push, reverse_undecided, pending-turned, turned, set_turned, last_is}
 use Rattle.lop_check.proofs.path.turn.Goals as goal
@@ -22,7 +22,7 @@ pub returns-clause-others : goal.returns-clause-others
 returns-clause-others c =
     let front = c.requires.last.0 in
     let s = c.requires.last.1 in
-    ap (λ (l : List Step). pending (standing l)) (after c) ∙ pending-turned front s c.requires.last.3 ∙ ap (λ (l : List Step). (standing l).others) (sym c.requires.last.2)
+    ap (λ (l : List Step). pending (place_after l)) (after c) ∙ pending-turned front s c.requires.last.3 ∙ ap (λ (l : List Step). (place_after l).others) (sym c.requires.last.2)
 
 pub ascend-requires : goal.ascend-requires
 ascend-requires c = record { some = some_path c.args.n c.requires.last.0 c.requires.last.1 c.args.trail.now (subst (λ (l : List Step). IsWalk c.args.n l c.args.trail.now) c.requires.last.2 c.requires.walk) }

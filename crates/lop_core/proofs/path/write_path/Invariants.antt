@@ -1,5 +1,4 @@
 use Rattle.std.proofs.Common.{◌≡◌, ◌<◌, ◌++◌, length, reverse}
-use Rattle.lop_leaf.specs.Ticket.{TicketFields}
 use Rattle.lop_core.specs.Tree.{path_of}
 use Rattle.lop_core.proofs.path.write_path.Given as goal
 

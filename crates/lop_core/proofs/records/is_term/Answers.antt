@@ -1,4 +1,4 @@
-use Rattle.std.proofs.Common.{◌∙◌, ap, sym}
+use Rattle.std.proofs.Common.{◌∙◌, ap}
 use Rattle.lop_cuts.specs.Lagrangian.{Term}
 use Rattle.lop_core.specs.Records.{cut_at}
 use Rattle.lop_core.proofs.SameRecords.{term_same}

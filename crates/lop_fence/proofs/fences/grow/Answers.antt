@@ -1,5 +1,5 @@
 use Rattle.std.proofs.Common.{arith}
-use Rattle.lop_fence.proofs.GainLemmas.{gains_then}
+use Rattle.lop_cuts.proofs.GainLemmas.{gains_then}
 use Rattle.lop_fence.proofs.fences.grow.Goals as goal
 
 pub loop-k-preserved : goal.loop-k-preserved

@@ -1,5 +1,5 @@
 use Rattle.std.proofs.Common.{◌≡◌, ◌≤◌, length}
-use Rattle.lop_fence.specs.Separation.{GainsViolated}
+use Rattle.lop_cuts.specs.Separation.{GainsViolated}
 use Rattle.lop_fence.proofs.fences.grow.Given as goal
 
 abbrev pub invariant-loop-k : goal.invariant-loop-k

@@ -1,4 +1,4 @@
-use Rattle.lop_fence.proofs.GainLemmas.{gains_then}
+use Rattle.lop_cuts.proofs.GainLemmas.{gains_then}
 use Rattle.lop_fence.proofs.fences.start_across.Goals as goal
 
 pub loop-u-preserved : goal.loop-u-preserved

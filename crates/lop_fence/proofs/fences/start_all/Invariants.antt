@@ -1,5 +1,5 @@
 use Rattle.std.proofs.Common.{◌≡◌, ◌≤◌, length}
-use Rattle.lop_fence.specs.Separation.{GainsViolated}
+use Rattle.lop_cuts.specs.Separation.{GainsViolated}
 use Rattle.lop_fence.proofs.fences.start_all.Given as goal
 
 abbrev pub invariant-loop-by : goal.invariant-loop-by

@@ -1,4 +1,4 @@
-use Rattle.lop_fence.proofs.GainLemmas.{gains_then, gains_front, gains_room, gains_cuts, gains_fit, gains_violated}
+use Rattle.lop_cuts.proofs.GainLemmas.{gains_then, gains_front, gains_room, gains_cuts, gains_fit, gains_violated}
 use Rattle.lop_fence.proofs.fences.violated_fences.Goals as goal
 
 pub returns-clause-front : goal.returns-clause-front

@@ -1,7 +1,4 @@
-use Rattle.std.proofs.Common.{◌≡◌}
-use Rattle.lop_cuts.specs.CutList.{BoundedCuts}
-use Rattle.lop_mobius.specs.Separation.{GainsViolated}
-use Rattle.lop_mobius.proofs.GainLemmas.{gains_then, gains_length, gains_front, gains_room, gains_cuts, gains_fit, gains_violated}
+use Rattle.lop_cuts.proofs.GainLemmas.{gains_then, gains_front, gains_room, gains_cuts, gains_fit, gains_violated}
 use Rattle.lop_mobius.proofs.ladders.violated_ladders.Goals as goal
 
 pub returns-clause-front : goal.returns-clause-front

@@ -1,4 +1,4 @@
-use Rattle.std.proofs.Common.{◌≡◌, length}
+use Rattle.std.proofs.Common.{◌≡◌}
 use Rattle.lop_node.proofs.choice.take_level.Given as goal
 
 abbrev pub invariant-loop-k : goal.invariant-loop-k

@@ -1,4 +1,4 @@
-use Rattle.std.proofs.Common.{◌≡◌, List, length, get_or, sym, subst}
+use Rattle.std.proofs.Common.{sym, subst}
 use Rattle.lop_cuts.specs.declared.kind.CutKind.{CutKind}
 use Rattle.lop_cuts.specs.Kind.{FitsCut}
 use Rattle.lop_node.proofs.choice.take_one.Goals as goal

@@ -1,17 +1,16 @@
-use Rattle.std.proofs.Common.{sym, ◌∙◌}
-use Rattle.lop_check.proofs.Walk.{expect_goes, expect_stops, stops_due, due_test}
+use Rattle.lop_check.proofs.Walk.{exits, due_next, due_on, due_fails}
 use Rattle.lop_check.proofs.reading.Reading.expect.Goals as goal
 
-pub returns-then-eq-clause-read : goal.returns-then-eq-clause-read
-returns-then-eq-clause-read g c =
-    expect_goes _ _ _ _ c.args.number c.args.due c.in-Ok.word c.line.new.self.numbers c.eq.result c.eq.ensures c.if-eq.true c.in-Ok.ensures.read
+pub returns-in_err-line-clause-stops : goal.returns-in_err-line-clause-stops
+returns-in_err-line-clause-stops g c = exits _ _ _ c.from_residual.ensures.1 (λ next. c.in_err-line.ensures.stops (due_next c.args.due next))
 
-pub returns-else-eq-clause-stop : goal.returns-else-eq-clause-stop
-returns-else-eq-clause-stop g c =
-    rw c.rejected.ensures (expect_stops _ _ _ _ c.args.number c.args.due c.in-Ok.word c.line.new.self.numbers c.eq.result c.eq.ensures c.if-eq.false c.in-Ok.ensures.read)
+pub returns-then-eq-clause-goes : goal.returns-then-eq-clause-goes
+returns-then-eq-clause-goes g c next =
+    let k = c.line.new.self.number in
+    due_on _ _ _ k c.args.due _ c.line.new.self.numbers _ (next k) c.eq.ensures c.if-eq.true (c.in_ok-line.ensures.goes (due_next c.args.due next))
 
-pub returns-in-Err-clause-stop : goal.returns-in-Err-clause-stop
-returns-in-Err-clause-stop g c = stops_due _ _ c.args.number c.args.due c.in-Err.verdict c.in-Err.ensures.stop
-
-pub returns-then-eq-clause-row : goal.returns-then-eq-clause-row
-returns-then-eq-clause-row g c = record { word = c.in-Ok.word; is_due_here = due_test c.args.due c.in-Ok.word ∙ sym c.eq.ensures ∙ c.if-eq.true; row = c.in-Ok.ensures.row }
+pub returns-else-eq-clause-stops : goal.returns-else-eq-clause-stops
+returns-else-eq-clause-stops g c next =
+    let k = c.line.new.self.number in
+    rw c.rejected.ensures
+    (due_fails _ _ _ k c.args.due _ c.line.new.self.numbers _ (next k) c.eq.ensures c.if-eq.false (c.in_ok-line.ensures.goes (due_next c.args.due next)))

@@ -1,17 +1,16 @@
-use Rattle.std.proofs.Common.{◌≡◌, ◌≤◌, ◌<◌, ◌+◌, ◌++◌, ◌∷◌, [], length, take, drop, sym, subst, ap, ◌∙◌, arith, rules, Bool, true, cond, List, ℕ}
+use Rattle.std.proofs.Common.{◌≡◌, ◌+◌, ◌++◌, ◌∷◌, [], length, take, drop, sym, subst, ap, ◌∙◌, arith, Bool, true, cond, List, ℕ}
 use Rattle.std.specs.Result.{is_ok}
 use Rattle.std.specs.Vec.{vec_len, vec_capacity}
-use Rattle.lop_model.specs.declared.pair.Pair.{Pair}
 use Rattle.lop_model.specs.Fixings.{IsUndecided}
 use Rattle.lop_check.specs.Trail.{FixedPath, IsTrail, is_fixed}
-use Rattle.lop_check.proofs.TrailLemmas.{room_left, not_fixed_back, descended, closure_of}
+use Rattle.lop_check.proofs.TrailLemmas.{capacity_left, not_fixed_back, descended, closure_of}
 use Rattle.lop_check.proofs.trail.Trail.descend.Goals as goal
 
 pub unwrap-requires : goal.unwrap-requires
 unwrap-requires c =
     let t = c.self.inside in
     let u = subst (λ (f : FixedPath). IsUndecided f.size f.path c.args.pair.before c.args.pair.after) (sym c.self.view_is) c.requires.undecided in
-    c.push.ensures.succeeds (omega (arith, room_left t.size t.path.items (vec_capacity t.path) t.depths.items c.args.pair c.self.invariant u, t.path.ok))
+    c.push.ensures.succeeds (omega (arith, capacity_left t.size t.path.items (vec_capacity t.path) t.depths.items c.args.pair c.self.invariant u, t.path.ok))
 
 pub note-requires-clause-fresh : goal.note-requires-clause-fresh
 note-requires-clause-fresh c =

@@ -1,4 +1,4 @@
-use Rattle.std.proofs.Common.{subst, sym, ap, ◌∙◌, ◌≡◌, ◌<◌, arith, List, ℕ}
+use Rattle.std.proofs.Common.{sym, ap, ◌∙◌, ◌≡◌, ◌<◌, arith, List, ℕ}
 use Rattle.lop_model.specs.Fixings.{has_pair}
 use Rattle.lop_model.proofs.RelatedPairs.{has_pair-inside}
 use Rattle.lop_check.specs.Trail.{FixedPath, is_fixed}

@@ -1,7 +1,7 @@
-use Rattle.std.proofs.Common.{◌∙◌, ◌≡◌, arith, sym, false}
+use Rattle.std.proofs.Common.{◌∙◌, arith, sym}
 use Rattle.std.proofs.lemmas.List.{length-map}
 use Rattle.lop_core.specs.Kept.{book_of}
-use Rattle.lop_core.proofs.SameRecords.{own_taken, added_taken}
+use Rattle.lop_core.proofs.SameRecords.{own_taken}
 use Rattle.lop_core.proofs.records.Records.offer.Goals as goal
 
 pub returns-then-is_own-clause-taken : goal.returns-then-is_own-clause-taken

@@ -1,5 +1,5 @@
 use Rattle.lop_core.specs.contracts.search.Core.{the_view}
-use Rattle.std.proofs.Common.{◌∙◌, ◌<◌, arith, subst, sym, length, ap}
+use Rattle.std.proofs.Common.{arith, subst}
 use Rattle.lop_core.specs.Core.{CoreFields}
 use Rattle.lop_core.specs.Records.{HaveTermsWithin, term_room}
 use Rattle.lop_core.proofs.SameRecords.{terms_within}

@@ -1,4 +1,4 @@
-use Rattle.std.proofs.Common.{vec_capacity, rules, ◌≡◌, ◌<◌, ◌≤◌, length, arith, sym, ◌∙◌, ap, subst, FitsSigned, refl, true, false, to_z, of_z}
+use Rattle.std.proofs.Common.{vec_capacity, rules, ◌∷◌, ◌≡◌, ◌<◌, ◌≤◌, length, arith, sym, ◌∙◌, ap, subst, FitsSigned, refl, true, false, to_z, of_z}
 use Rattle.std.specs.Prelude.{ℤ, ◌≤ℤ◌}
 use Rattle.std.specs.Int.{int_max}
 use Rattle.std.proofs.lemmas.Int.{to_z-of_z, ints, clamps}
@@ -9,13 +9,15 @@ use Rattle.lop_core.specs.Machine.{IsOutTo}
 use Rattle.lop_core.specs.Records.{with_children, record_at}
 use Rattle.lop_core.specs.Core.{CoreFields, IsSoundReport}
 use Rattle.lop_core.specs.contracts.search.Core.{the_view}
-use Rattle.lop_core.proofs.CoreLemmas.{core_counted, report_counts, out_to, not_out_to, not_there, Leaves, leaves_by, left_true, left_outs, left_noted, left_keeps, kept_is, room_is, taken_is, report_facts, report_laws, report_candidates, if_some}
+use Rattle.lop_core.proofs.CoreLemmas.{core_counted, report_counts, out_to, not_out_to, not_there, Leaves, leaves_by, left_true, left_noted, left_keeps, kept_is, room_is, taken_is, report_facts, report_laws, report_candidates, if_some}
 use Rattle.lop_core.proofs.CandidateLemmas.{candidates_in}
+use Rattle.lop_core.proofs.OutLemmas.{out_total, out_listed, out_to_out, outs_reported}
 use Rattle.lop_core.proofs.BookLemmas.{GrownBook, grown_by}
 use Rattle.lop_core.specs.Candidates.{candidates_of}
 use Rattle.lop_core.specs.Kept.{book_of, kept_of, record_of}
 use Rattle.lop_leaf.specs.Record.{IsScaledTerms}
 use Rattle.std.proofs.lemmas.List.{length-map}
+use Rattle.std.proofs.lemmas.List.Sorted.{length_permutation}
 use Rattle.lop_core.proofs.search.Core.report.Goals as goal
 use Rattle.lop_core.proofs.search.Core.report.Goals.{in-Some, in-None}
 
@@ -45,11 +47,11 @@ overflow_add-self c =
     let h = core_counted _ c.self.invariant.0 in
     omega (arith, h.within, c.self.invariant.2.within_limit)
 
-pub overflow_sub-self : goal.overflow_sub-self
-overflow_sub-self c =
+pub remove_out-requires : goal.remove_out-requires
+remove_out-requires c =
     let lt : c.node-node.result < length c.self.inside.nodes.items = omega (arith, c.len.ensures, c.if-index-len.false) in
     let out = out_to (the_view c.self.inside).state c.args.worker c.node-node.result c.index.result.now lt c.index.ensures (c.if-not-is_out_to.ensures.0 refl) in
-    omega (arith, report_counts (the_view c.self.inside) c.args.worker c.node-node.result c.self.invariant.0 out, c.self.invariant.3)
+    out_listed c.self.inside.nodes.items _ c.self.inside.outs.items _ c.self.invariant.3 c.node-node.result lt (out_to_out c.self.inside.nodes.items c.node-node.result c.args.worker out.0 out.1 out.2)
 
 pub offer-room-requires-clause-for_record : goal.offer-room-requires-clause-for_record
 offer-room-requires-clause-for_record c =
@@ -136,7 +138,9 @@ put_children-requires-clause-room c =
     let out = out_to (the_view c.self.inside).state c.args.worker c.node-node.result c.index.result.now lt c.index.ensures (c.if-not-is_out_to.ensures.0 refl) in
     let h = core_counted _ c.self.invariant.0 in
     let one = report_counts (the_view c.self.inside) c.args.worker c.node-node.result c.self.invariant.0 out in
-    if_some c.settle-split.result (omega (arith, h.within, one, c.self.invariant.3, c.self.invariant.6.few, c.self.invariant.6.room, c.raise.ensures.count, c.raise.ensures.room))
+    let total = out_total c.self.inside.nodes.items _ c.self.inside.outs.items _ c.self.invariant.3 in
+    let moved = length_permutation c.self.inside.outs.items (c.node-node.result ∷ c.remove_out.new.outs.items) c.remove_out.ensures.moved in
+    if_some c.settle-split.result (omega (arith, h.within, one, total, moved, c.self.invariant.6.few, c.self.invariant.6.room, c.raise.ensures.count, c.raise.ensures.room))
 
 pub put_children-requires-clause-small : goal.put_children-requires-clause-small
 put_children-requires-clause-small c =
@@ -149,6 +153,7 @@ put_children-requires-clause-small c =
 pub invariant_of-self : goal.invariant_of-self
 invariant_of-self c =
     let lt : c.node-node.result < length c.self.inside.nodes.items = omega (arith, c.len.ensures, c.if-index-len.false) in
+    let own = out_to (the_view c.self.inside).state c.args.worker c.node-node.result c.index.result.now lt c.index.ensures (c.if-not-is_out_to.ensures.0 refl) in
     let out = subst (λ n. IsOutTo (the_view c.self.inside).state c.args.worker n) c.node-node.ensures (out_to (the_view c.self.inside).state c.args.worker c.node-node.result c.index.result.now lt c.index.ensures (c.if-not-is_out_to.ensures.0 refl)) in
     let sound = subst (λ (v : CoreFields). IsOutTo v.state c.args.worker c.args.found.now.node → IsSoundReport v c.args.found.now) (sym c.self.view_is) c.requires.sound out in
     let few = subst IsScaledTerms c.shown.ensures c.offer-room.ensures.shown in
@@ -180,14 +185,15 @@ invariant_of-self c =
         for_numbers = omega (arith, c.self.invariant.2.for_numbers, c.offer-room.ensures.for_nodes, c.inherit.ensures.for_nodes);
         for_records = omega (arith, c.self.invariant.2.for_records, c.offer-room.ensures.for_records, c.inherit.ensures.for_records);
       },
-      omega (arith, c.self.invariant.3, left_outs (the_view c.self.inside) c.args.worker c.args.found.now _ _ _ _ l c.self.invariant.0 c.self.invariant.1 few out sound),
+      outs_reported c.self.inside.nodes.items c.self.inside.budget c.node-node.result _ _ c.self.inside.outs.items c.remove_out.new.outs.items _ _ c.self.invariant.3 lt
+          (out_to_out c.self.inside.nodes.items c.node-node.result c.args.worker own.0 own.1 own.2) c.remove_out.ensures.moved c.remove_out.ensures.room c.pair-pair.result c.settle-split.new.nodes.items c.settle-split.ensures.after,
       c.inherit.ensures.kept,
       c.inherit.ensures.term_room ∙ c.offer-room.ensures.term_room ∙ c.self.invariant.5,
       record {
         kept = report_candidates (the_view c.self.inside) c.args.worker c.args.found.now _ _ _ _ c.settle-split.result _ (candidates_of c.raise.new.self) (candidates_of c.put_children.new.self) l
             c.self.invariant.0 c.self.invariant.1 few out sound (candidates_in c.self.inside.nodes.items c.deref.result.now c.keep_better.new.best (to_z w128 (of_z w128 c.keep_better.new.best)) (candidates_of c.raise.new.self) c.deref.ensures.value (to_z-of_z w128 c.keep_better.new.best fx) c.raise.ensures.kept) (to_z-of_z w128 c.either-bound.result fk ∙ c.either-bound.ensures ∙ kept)
             c.settle-split.ensures.first c.settle-split.ensures.closed c.put_children.ensures.split c.put_children.ensures.closed (c.put_children.ensures.ordered (candidates_in c.self.inside.nodes.items c.deref.result.now c.keep_better.new.best (to_z w128 (of_z w128 c.keep_better.new.best)) (candidates_of c.raise.new.self) c.deref.ensures.value (to_z-of_z w128 c.keep_better.new.best fx) c.raise.ensures.kept).ordered);
-        few = omega (arith, c.self.invariant.3, c.self.invariant.6.few, c.raise.ensures.count, c.put_children.ensures.count, report_counts (the_view c.self.inside) c.args.worker c.args.found.now.node c.self.invariant.0 out);
+        few = omega (arith, out_total c.self.inside.nodes.items _ c.self.inside.outs.items _ c.self.invariant.3, length_permutation c.self.inside.outs.items (c.node-node.result ∷ c.remove_out.new.outs.items) c.remove_out.ensures.moved, c.self.invariant.6.few, c.raise.ensures.count, c.put_children.ensures.count, report_counts (the_view c.self.inside) c.args.worker c.args.found.now.node c.self.invariant.0 out);
         room = omega (arith, c.self.invariant.6.room, c.raise.ensures.room, c.put_children.ensures.room);
         spare = omega (arith, c.self.invariant.6.spare, c.raise.ensures.spare, ap vec_capacity c.put_children.ensures.spare);
       },

@@ -1,5 +1,4 @@
-use Rattle.std.proofs.Common.{◌≡◌}
-use Rattle.lop_mobius.proofs.GainLemmas.{gains_then}
+use Rattle.lop_cuts.proofs.GainLemmas.{gains_then}
 use Rattle.lop_mobius.proofs.room.RingRoom.try_all.Goals as goal
 
 pub loop-i-preserved : goal.loop-i-preserved

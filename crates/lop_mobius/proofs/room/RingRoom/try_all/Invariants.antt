@@ -1,5 +1,5 @@
 use Rattle.std.proofs.Common.{◌≡◌, ◌≤◌, length}
-use Rattle.lop_mobius.specs.Separation.{GainsViolated}
+use Rattle.lop_cuts.specs.Separation.{GainsViolated}
 use Rattle.lop_mobius.proofs.room.RingRoom.try_all.Given as goal
 
 abbrev pub invariant-loop-i : goal.invariant-loop-i

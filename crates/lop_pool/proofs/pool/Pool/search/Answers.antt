@@ -5,7 +5,7 @@ use Rattle.lop_core.specs.Tree.{out_count}
 use Rattle.lop_core.proofs.Alone.{core_outcome}
 use Rattle.lop_pool.specs.Ends.{PoolFields, IsEnd}
 use Rattle.lop_pool.specs.Workers.{WorkerFits}
-use Rattle.lop_pool.proofs.EndLemmas.{no_journal, best_kept, bound_kept, closed_iff, spent_iff, finished, all_back}
+use Rattle.lop_pool.proofs.EndLemmas.{no_journal, best_kept, bound_kept, closed_iff, closed_by, spent_iff, finished, all_back}
 use Rattle.lop_pool.proofs.pool.Pool.search.Goals as goal
 
 pub search_with-judged-requires-clause-fits : goal.search_with-judged-requires-clause-fits
@@ -34,6 +34,11 @@ returns-clause-bound g c =
 pub returns-clause-closed : goal.returns-clause-closed
 returns-clause-closed g c =
     closed_iff c.into_core-core.result c.search_with-judged.result.1 (subst (λ (x : CoreFields). IsEnd x c.search_with-judged.result.1) (sym c.into_core-core.ensures.value) c.search_with-judged.ensures.end)
+
+pub returns-clause-enough : goal.returns-clause-enough
+returns-clause-enough g c =
+    closed_by c.into_core-core.result c.search_with-judged.result.1 c.journal-after.ensures.history
+    (subst (λ (x : CoreFields). IsEnd x c.search_with-judged.result.1) (sym c.into_core-core.ensures.value) c.search_with-judged.ensures.end)
 
 pub returns-clause-spent : goal.returns-clause-spent
 returns-clause-spent g c =

@@ -7,8 +7,6 @@ mod cells;
 mod fixed;
 mod room;
 mod sums;
-#[cfg(test)]
-mod tests;
 
 pub use answer::{Pivot, Solved};
 pub use room::BasisRoom;

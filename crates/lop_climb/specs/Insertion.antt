@@ -24,7 +24,7 @@ pub record IsClimbedFrom (C : Matrix) (s t : List ℕ) : Type 0 where
   pub moves : ℕ
   pub climb : IsClimb C s moves t
   pub limit : moves ≤ 10 * C.size * C.size
-  pub settled : moves < 10 * C.size * C.size → IsInsertionOptimum C t
+  pub optimal : moves < 10 * C.size * C.size → IsInsertionOptimum C t
 
 -- what the weight gains where the object at place f is put in at place t
 abbrev pub gain_of : Matrix → List ℕ → ℕ → ℕ → ℤ

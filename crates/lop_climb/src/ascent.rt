@@ -13,7 +13,7 @@ pub struct Climbed {
     /// The weight of the order that it left.
     pub value: i128,
     /// No insertion of one object at another place gains. False where the climb stopped at its limit.
-    pub settled: bool,
+    pub optimal: bool,
     /// How many insertions were made.
     pub moves: u32,
 }
@@ -31,8 +31,8 @@ pub fn ascend(weights: &Weights, order: &mut Order) -> Climbed
     ensures value { result.value ≡ weight weights.now order.new }
     ensures moves { IsClimb weights.now order.old result.moves order.new }
     ensures limit { result.moves ≤ 10 * weights.now.size * weights.now.size }
-    ensures stopped { (result.settled ≡ false) ↔ (result.moves ≡ 10 * weights.now.size * weights.now.size) }
-    ensures settled { IsTrue result.settled → IsInsertionOptimum weights.now order.new }
+    ensures stopped { (result.optimal ≡ false) ↔ (result.moves ≡ 10 * weights.now.size * weights.now.size) }
+    ensures optimal { IsTrue result.optimal → IsInsertionOptimum weights.now order.new }
     ensures order { IsOrder weights.now.size order.new }
 {
     prove_eq!(order.n(), weights.n());
@@ -44,7 +44,7 @@ pub fn ascend(weights: &Weights, order: &mut Order) -> Climbed
         if made == 0 {
             return Climbed {
                 value: value(weights, order),
-                settled: true,
+                optimal: true,
                 moves,
             };
         }
@@ -52,7 +52,7 @@ pub fn ascend(weights: &Weights, order: &mut Order) -> Climbed
     }
     Climbed {
         value: value(weights, order),
-        settled: false,
+        optimal: false,
         moves,
     }
 }
@@ -64,7 +64,7 @@ fn pass(weights: &Weights, order: &mut Order, most: u32) -> u32
     requires most { 1 ≤ most }
     ensures moves { IsClimb weights.now order.old result order.new }
     ensures within { result ≤ most }
-    ensures settled { result ≡ 0 → IsInsertionOptimum weights.now order.new }
+    ensures optimal { result ≡ 0 → IsInsertionOptimum weights.now order.new }
     ensures order { IsOrder weights.now.size order.new }
 {
     prove_eq!(order.n(), weights.n());

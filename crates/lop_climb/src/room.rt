@@ -80,8 +80,8 @@ pub fn climb(weights: &Weights, room: &mut ClimbRoom) -> Climbed
     ensures moves { IsClimb weights.now room.old result.moves room.new }
     ensures climbed { IsClimbedFrom weights.now room.old room.new }
     ensures limit { result.moves ≤ 10 * weights.now.size * weights.now.size }
-    ensures stopped { (result.settled ≡ false) ↔ (result.moves ≡ 10 * weights.now.size * weights.now.size) }
-    ensures settled { IsTrue result.settled → IsInsertionOptimum weights.now room.new }
+    ensures stopped { (result.optimal ≡ false) ↔ (result.moves ≡ 10 * weights.now.size * weights.now.size) }
+    ensures optimal { IsTrue result.optimal → IsInsertionOptimum weights.now room.new }
     ensures order { IsOrder weights.now.size room.new }
 {
     ascend(weights, &mut room.order)

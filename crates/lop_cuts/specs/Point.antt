@@ -1,6 +1,7 @@
 -- Points: a value between 0 and 2^32, which stands for 1, for each ordered pair of objects, and the cuts that they violate.
 use Rattle.std.specs.Prelude.{◌≡◌, ◌≢◌, ◌⊎◌, ℕ, ◌+◌, ◌-◌, ◌*◌, ◌^◌, ◌<◌, ◌≤◌, List, length, slice_index, replicate, sum_by}
 use Rattle.lop_model.specs.declared.pair.Pair.{Pair}
+use Rattle.lop_model.specs.declared.weights.TheConstants.{MAX_OBJECTS}
 use Rattle.lop_cuts.specs.declared.kind.CutKind.{CutKind}
 use Rattle.lop_cuts.specs.Kind.{arcs_of, right_side_of}
 
@@ -20,7 +21,7 @@ halves n = record { size = n; values = replicate (n * n) (2 ^ 31) }
 -- n from 1 to 512, a value for each row and column, and the values of an arc and of its reverse add up to 1
 pub record IsPoint (p : PointValues) : Type 0 where
   pub positive : 1 ≤ p.size
-  pub within_limit : p.size ≤ 512
+  pub within_limit : p.size ≤ MAX_OBJECTS
   pub square : length p.values ≡ p.size * p.size
   pub reverse : (a b : ℕ) → a < p.size → b < p.size → value_at p a b + value_at p b a ≡ 2 ^ 32
 

@@ -20,6 +20,3 @@ pub use fault::CutFault;
 pub use kind::{CutKind, Cycle};
 pub use point::Point;
 pub use violated::is_violated;
-
-#[cfg(test)]
-mod tests;

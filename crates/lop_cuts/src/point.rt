@@ -1,4 +1,5 @@
 ghost use Rattle.std.specs.Prelude.{◌≡◌, ◌≢◌, ℕ, ◌+◌, ◌*◌, ◌<◌, ◌≤◌, ◌^◌, length, slice_index, IfOk};
+ghost use Rattle.lop_model.specs.declared.weights.TheConstants.{MAX_OBJECTS};
 
 use std::alloc::{AllocError, Global};
 use std::marker::Model;
@@ -30,7 +31,7 @@ impl Point {
     /// One half everywhere. It takes n² numbers of 8 bytes.
     pub fn new(alloc: Global, n: u16) -> Result<Self, AllocError>
         requires positive { 1 ≤ n }
-        requires within_limit { n ≤ 512 }
+        requires within_limit { n ≤ MAX_OBJECTS }
         ensures { IfOk result (λ p. p ≡ halves n) }
     {
         let cells = n as usize * n as usize;

@@ -14,6 +14,3 @@ pub use memory::{MemoryDesk, NamedBytes, has_distinct_names};
 pub use number::{is_whole, plain_number, whole_number};
 pub use text::{TEXT_ROOM, TextRoom};
 pub use whole::{ReadStop, print_all, read_whole, write_all};
-
-#[cfg(test)]
-mod tests;

@@ -75,8 +75,8 @@ fn are_digits(word: &[u8]) -> bool
 /// The value of an optional sign and one or more digits, where it is at most 10^18 in absolute value. Zeros in
 /// front don't count, so a word may have any length. Cost: O(k) for k bytes, a multiplication for each.
 pub fn whole_number(word: &[u8]) -> Option<i128>
-    ensures { MatchOption result (IsTrue (is_whole_word word.now) → 10 ^ 18 < nat_abs (whole_value word.now))
-        (λ n. IsTrue (is_whole_word word.now) × (n ≡ whole_value word.now) × (nat_abs n ≤ 10 ^ 18)) }
+    ensures { MatchOption result (IsTrue (is_whole_word word.now) → LARGEST < nat_abs (whole_value word.now))
+        (λ n. IsTrue (is_whole_word word.now) × (n ≡ whole_value word.now) × (nat_abs n ≤ LARGEST)) }
 {
     let rest = unsigned(word);
     if rest.is_empty() {

@@ -6,6 +6,3 @@ mod growth;
 mod work;
 
 pub use fences::violated_fences;
-
-#[cfg(test)]
-mod tests;

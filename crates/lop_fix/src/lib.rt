@@ -5,7 +5,5 @@ mod crossing;
 mod fixings;
 pub mod lanes;
 mod table;
-#[cfg(test)]
-mod tests;
 
 pub use fixings::{Decision, Fixings, PathFault};

@@ -2,8 +2,6 @@
 #![tactic(auto)]
 
 mod matrix;
-#[cfg(test)]
-mod tests;
 mod text;
 
 pub use matrix::generate;

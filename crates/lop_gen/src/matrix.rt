@@ -5,6 +5,7 @@ ghost use Rattle.rand_pcg.specs.Pcg.{multiplier_64, output_xsh_rr};
 ghost use Rattle.lop_gen.specs.Drawn.{drawn_row};
 ghost use Rattle.lop_gen.specs.Generated.{generated_matrix};
 ghost use Rattle.lop_gen.specs.Text.{HasNarrowDiagonal};
+ghost use Rattle.lop_model.specs.declared.weights.TheConstants.{MAX_OBJECTS};
 
 use lop_model::Weights;
 use rand_core::SeedableRng;
@@ -16,7 +17,7 @@ use std::alloc::{AllocError, Global};
 /// generator `Lcg64Xsh32` modulo 1,000, and the diagonal is 0 and draws no word. O(n²).
 pub fn generate(alloc: Global, seed: u64, n: u16) -> Result<Weights, AllocError>
     requires positive { 1 ≤ n }
-    requires within_limit { n ≤ 512 }
+    requires within_limit { n ≤ MAX_OBJECTS }
     ensures weights { IfOk result (λ weights. weights ≡ generated_matrix seed n) }
     ensures diagonal { IfOk result HasNarrowDiagonal }
 {

@@ -1,7 +1,8 @@
 -- What a LOLIB text means.
-use Rattle.std.specs.Prelude.{◌≡◌, ℕ, ◌+◌, ◌-◌, ◌*◌, ◌^◌, ◌||◌, nat_lt, List, [], ◌∷◌, length, map, take, drop, slice_index_or, ℤ, pos, int_lt, nat_abs, if◌then◌else◌, Result, Ok, Err}
+use Rattle.std.specs.Prelude.{◌≡◌, ℕ, ◌+◌, ◌-◌, ◌*◌, ◌||◌, nat_lt, List, [], ◌∷◌, length, map, take, drop, slice_index_or, ℤ, pos, int_lt, nat_abs, if◌then◌else◌, Result, Ok, Err}
 use Rattle.std.specs.List.{prefix_len}
 use Rattle.lop_desk.specs.Number.{is_whole_word, whole_value}
+use Rattle.lop_model.specs.declared.weights.TheConstants.{MAX_ABSOLUTE_SUM, MAX_OBJECTS}
 use Rattle.lop_model.specs.Matrix.{matrix_of, absolute_total}
 use Rattle.lop_lolib.specs.Words.{is_separator, words_of, is_number_word}
 use Rattle.lop_lolib.specs.Title.{title_of, title_len}
@@ -12,7 +13,7 @@ use Rattle.lop_lolib.specs.declared.refusal.LolibRefusal.TheVariants.{Empty, Bad
 -- n rows of n entries, whose absolute values off the diagonal sum to at most 10^18, and the number of words behind them
 abbrev pub entries_reading : ℕ → List ℤ → ℕ → Result LolibFile LolibRefusal
 entries_reading n entries tail =
-    if int_lt (pos (10 ^ 18)) (absolute_total (matrix_of n entries)) then Err (TooHeavy (absolute_total (matrix_of n entries))) else Ok (record { weights = matrix_of n entries; title = []; tail_words = tail })
+    if int_lt MAX_ABSOLUTE_SUM (absolute_total (matrix_of n entries)) then Err (TooHeavy (absolute_total (matrix_of n entries))) else Ok (record { weights = matrix_of n entries; title = []; tail_words = tail })
 
 -- why a word is no entry
 abbrev pub entry_refusal : ℕ → List ℕ → LolibRefusal
@@ -31,7 +32,7 @@ rows_reading n words =
 -- n is from 1 to 512
 abbrev pub size_reading : ℤ → List (List ℕ) → Result LolibFile LolibRefusal
 size_reading n words =
-    if int_lt n (pos 1) || int_lt (pos 512) n then Err (SizeRange n) else rows_reading (nat_abs n) words
+    if int_lt n (pos 1) || int_lt (pos MAX_OBJECTS) n then Err (SizeRange n) else rows_reading (nat_abs n) words
 
 -- the first word is a number n; it begins at this position
 abbrev pub words_reading : ℕ → List (List ℕ) → Result LolibFile LolibRefusal

@@ -5,8 +5,6 @@ mod heading;
 mod lolib;
 mod order;
 mod refusal;
-#[cfg(test)]
-mod tests;
 mod title;
 mod words;
 

@@ -8,7 +8,7 @@ use crate::refusal::LolibRefusal;
 use crate::title::Title;
 use crate::words::{Words, blank_len, number_of};
 use lop_desk::is_whole;
-use lop_model::{Weights, WeightsFault};
+use lop_model::{MAX_OBJECTS, Weights, WeightsFault};
 use std::alloc::Global;
 
 /// What a file holds.
@@ -59,7 +59,7 @@ fn read_body(
 
 // The number of objects, which is the first word and begins at this position.
 fn read_size(words: &mut Words<'_>, position: usize) -> Result<u16, LolibRefusal>
-    ensures size { IfOk result (λ n. (1 ≤ n) × (n ≤ 512)
+    ensures size { IfOk result (λ n. (1 ≤ n) × (n ≤ MAX_OBJECTS)
         × (words_reading position (words_of words.old.rest.now) ≡ rows_reading n (words_of words.new.rest.now))) }
     ensures fewer { IfOk result (λ _. length (words_of words.new.rest.now) ≤ length (words_of words.old.rest.now)) }
     ensures refusal { IfErr result (λ refusal. words_reading position (words_of words.old.rest.now) ≡ Err refusal) }
@@ -68,7 +68,7 @@ fn read_size(words: &mut Words<'_>, position: usize) -> Result<u16, LolibRefusal
         return Err(LolibRefusal::Empty);
     };
     match number_of(word) {
-        Some(n) if n >= 1 && n <= 512 => Ok(n as u16),
+        Some(n) if n >= 1 && n <= i64::from(MAX_OBJECTS) => Ok(n as u16),
         Some(n) => Err(LolibRefusal::SizeRange(n)),
         None => Err(LolibRefusal::BadSize(position as u64)),
     }
@@ -76,7 +76,7 @@ fn read_size(words: &mut Words<'_>, position: usize) -> Result<u16, LolibRefusal
 
 // The n * n entries.
 fn read_entries(alloc: Global, words: &mut Words<'_>, n: u16) -> Result<Vec<i64>, LolibRefusal>
-    requires { n ≤ 512 }
+    requires { n ≤ MAX_OBJECTS }
     ensures entries { IfOk result (λ entries. (length entries.items ≡ n * n)
         × (rows_reading n (words_of words.old.rest.now) ≡ entries_reading n entries.items (length (words_of words.new.rest.now)))) }
     ensures fewer { IfOk result (λ _. length (words_of words.new.rest.now) ≤ length (words_of words.old.rest.now)) }

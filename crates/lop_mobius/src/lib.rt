@@ -12,6 +12,3 @@ mod work;
 
 pub use ladders::violated_ladders;
 pub use room::RingRoom;
-
-#[cfg(test)]
-mod tests;

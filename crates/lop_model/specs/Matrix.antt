@@ -1,5 +1,6 @@
 use Rattle.std.specs.Prelude.{◌≡◌, ℕ, ◌+◌, ◌*◌, ◌<◌, ◌≤◌, ◌^◌, List, [], length, take, drop, map, slice_index, slice_index_or, ℤ, pos, ◌+ℤ◌, ◌-ℤ◌, ◌≤ℤ◌, unsigned_abs}
 use Rattle.std.specs.List.{range_with_len}
+use Rattle.lop_model.specs.declared.weights.TheConstants.{MAX_OBJECTS, MAX_ABSOLUTE_SUM}
 use Rattle.lop_model.specs.Sums.{pair_sum}
 use Rattle.lop_model.specs.Order.{IsOrder}
 
@@ -51,18 +52,18 @@ pub record IsUpperBound (C : Matrix) (B : ℤ) : Type 0 where
 -- n from 1 to 512, n rows of n numbers, and off-diagonal absolute values that sum to at most 10^18
 pub record IsWeights (C : Matrix) : Type 0 where
   pub positive : 1 ≤ C.size
-  pub within_limit : C.size ≤ 512
+  pub within_limit : C.size ≤ MAX_OBJECTS
   pub rows : length C.rows ≡ C.size
   pub columns : (i : ℕ) → i < C.size → length (slice_index_or C.rows i []) ≡ C.size
-  pub bounded_sum : absolute_total C ≤ℤ pos (10 ^ 18)
+  pub bounded_sum : absolute_total C ≤ℤ MAX_ABSOLUTE_SUM
 
 -- n is within its limits, and there is an entry for each row and column
 pub record IsShaped (n : ℕ) (es : List ℤ) : Type 0 where
   pub positive : 1 ≤ n
-  pub within_limit : n ≤ 512
+  pub within_limit : n ≤ MAX_OBJECTS
   pub square : length es ≡ n * n
 
 -- what the type of weights keeps of n and the entries
 pub record AreWeights (n : ℕ) (es : List ℤ) : Type 0 where
   pub shaped : IsShaped n es
-  pub bounded_sum : absolute_total (matrix_of n es) ≤ℤ pos (10 ^ 18)
+  pub bounded_sum : absolute_total (matrix_of n es) ≤ℤ MAX_ABSOLUTE_SUM

@@ -9,6 +9,3 @@ mod weights;
 pub use order::{Order, OrderFault};
 pub use pair::Pair;
 pub use weights::{MAX_ABSOLUTE_SUM, MAX_OBJECTS, Weights, WeightsFault};
-
-#[cfg(test)]
-mod tests;

@@ -43,7 +43,7 @@ impl Model for Weights {
 // The entry in row a and column b of n rows that lie one after another.
 fn entry_at(entries: &[i64], n: usize, a: usize, b: usize) -> i64
     requires square { length entries.now ≡ n * n }
-    requires within_limit { n ≤ 512 }
+    requires within_limit { n ≤ MAX_OBJECTS }
     requires row { a < n }
     requires column { b < n }
     ensures { result ≡ entry (matrix_of n entries.now) a b }
@@ -54,7 +54,7 @@ fn entry_at(entries: &[i64], n: usize, a: usize, b: usize) -> i64
 // The entry in row a and column b less that in row b and column a.
 fn margin_at(entries: &[i64], n: usize, a: usize, b: usize) -> i64
     requires square { length entries.now ≡ n * n }
-    requires within_limit { n ≤ 512 }
+    requires within_limit { n ≤ MAX_OBJECTS }
     requires bounded_sum { absolute_total (matrix_of n entries.now) ≤ℤ pos (10 ^ 18) }
     requires row { a < n }
     requires column { b < n }
@@ -68,7 +68,7 @@ fn margin_at(entries: &[i64], n: usize, a: usize, b: usize) -> i64
 // The absolute values of the two entries of a pair, added up.
 fn pair_absolute_at(entries: &[i64], n: usize, a: usize, b: usize) -> i128
     requires square { length entries.now ≡ n * n }
-    requires within_limit { n ≤ 512 }
+    requires within_limit { n ≤ MAX_OBJECTS }
     requires row { a < n }
     requires column { b < n }
     ensures value { result ≡ pair_absolute (matrix_of n entries.now) a b }
@@ -82,7 +82,7 @@ fn pair_absolute_at(entries: &[i64], n: usize, a: usize, b: usize) -> i128
 // The absolute values off the diagonal, added up.
 fn absolute_sum(entries: &[i64], n: usize) -> i128
     requires square { length entries.now ≡ n * n }
-    requires within_limit { n ≤ 512 }
+    requires within_limit { n ≤ MAX_OBJECTS }
     ensures { result ≡ absolute_total (matrix_of n entries.now) }
 {
     let mut sum: i128 = 0;

@@ -3,16 +3,17 @@ use Rattle.std.specs.Prelude.{◌≡◌, ℕ, ◌≤◌, ◌==◌, Bool, true, f
 use Rattle.lop_preflib.specs.Line.{told_size, told_name, size_word_of, name_for, is_order_line}
 use Rattle.lop_preflib.specs.declared.line.Line.{Line}
 use Rattle.lop_preflib.specs.declared.line.Line.TheVariants.{Size, Name, Order, Other}
+use Rattle.lop_preflib.specs.declared.profile.TheConstants.{MAX_ALTERNATIVES}
 
 -- the line's size word, whether it is an order line, and the name that it gives the alternative with each number up to 512
 pub record Says (line : List ℕ) (size : Option (List ℕ)) (order : Bool) (name : ℕ → Option (List ℕ)) : Type 0 where
   pub size_word : size_word_of line ≡ size
   pub order_line : is_order_line line ≡ order
-  pub names : (i : ℕ) → 1 ≤ i → i ≤ 512 → name_for i line ≡ name i
+  pub names : (i : ℕ) → 1 ≤ i → i ≤ MAX_ALTERNATIVES → name_for i line ≡ name i
 
 -- the names that a metadata text gives: none, or one
 abbrev pub AreNames : List ℕ → (ℕ → Option (List ℕ)) → Type 0
-AreNames text name = (i : ℕ) → 1 ≤ i → i ≤ 512 → told_name i text ≡ name i
+AreNames text name = (i : ℕ) → 1 ≤ i → i ≤ MAX_ALTERNATIVES → told_name i text ≡ name i
 
 -- a metadata text's size word, and the name that it gives the alternative with each number up to 512
 pub record Tells (text : List ℕ) (size : Option (List ℕ)) (name : ℕ → Option (List ℕ)) : Type 0 where

@@ -1,5 +1,6 @@
 -- A profile: the orders of voters.
 use Rattle.std.specs.Prelude.{◌≡◌, ◌≢◌, ℕ, ◌<◌, ◌≤◌, ◌^◌, List, [], length, map, slice_index, slice_index_or, sum, All}
+use Rattle.lop_preflib.specs.declared.profile.TheConstants.{MAX_ALTERNATIVES, MAX_VOTERS}
 
 -- how many voters gave an order, and the objects that they rank, the best first
 pub record CountedOrder : Type 0 where
@@ -29,8 +30,8 @@ pub record IsCounted (n : ℕ) (order : CountedOrder) : Type 0 where
 -- n from 1 to 512, n names, one order or more, and at most 10^18 voters
 pub record IsProfile (profile : ProfileFields) : Type 0 where
   pub positive : 1 ≤ profile.size
-  pub within_limit : profile.size ≤ 512
+  pub within_limit : profile.size ≤ MAX_ALTERNATIVES
   pub named : length profile.names ≡ profile.size
   pub some : 0 < length profile.orders
   pub counted : All (IsCounted profile.size) profile.orders
-  pub few : votes profile.orders ≤ 10 ^ 18
+  pub few : votes profile.orders ≤ MAX_VOTERS

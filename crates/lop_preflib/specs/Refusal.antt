@@ -7,6 +7,7 @@ use Rattle.lop_preflib.specs.Text.{is_number_to}
 use Rattle.lop_preflib.specs.Line.{size_word_of, is_order_line, has_colon, count_word, list_text, items_in}
 use Rattle.lop_preflib.specs.declared.refusal.PrefRefusal.{PrefRefusal}
 use Rattle.lop_preflib.specs.declared.refusal.PrefRefusal.TheVariants.{NoSize, SizeRange, BadLine, BadCount, Ties, BadAlternative, Repeated, TooMany}
+use Rattle.lop_preflib.specs.declared.profile.TheConstants.{MAX_ALTERNATIVES, MAX_VOTERS}
 
 -- a number that stood among these items
 abbrev pub stood_before : List (List ℕ) → ℕ → Bool
@@ -25,7 +26,7 @@ items_refusal n line items = first_answer (item_refusal n line items) (range_wit
 
 -- with this count there are more than 10^18 voters
 abbrev pub votes_refusal : ℕ → ℕ → Option PrefRefusal
-votes_refusal line voters = if nat_lt (10 ^ 18) voters then Some (TooMany line) else None
+votes_refusal line voters = if nat_lt MAX_VOTERS voters then Some (TooMany line) else None
 
 -- `{` (123) or `}` (125)
 abbrev pub is_brace : ℕ → Bool
@@ -35,7 +36,7 @@ is_brace b = b == 123 || b == 125
 abbrev pub order_refusal : ℕ → ℕ → ℕ → List ℕ → Option PrefRefusal
 order_refusal n voters line text =
     if not (has_colon text) then Some (BadLine line)
-    else if not (is_number_to (10 ^ 18) (count_word text)) then Some (BadCount line)
+    else if not (is_number_to MAX_VOTERS (count_word text)) then Some (BadCount line)
     else if list_any is_brace (list_text text) then Some (Ties line)
     else or_else (items_refusal n line (items_in (list_text text))) (votes_refusal line (voters + digits_value (count_word text)))
 
@@ -46,7 +47,7 @@ sized_refusal (Some n) voters line text = order_refusal n voters line text
 
 -- the first size word isn't a number from 1 to 512
 abbrev pub size_refusal : Option ℕ → ℕ → Option (List ℕ) → Option PrefRefusal
-size_refusal None line (Some word) = if is_number_to 512 word then None else Some (SizeRange line)
+size_refusal None line (Some word) = if is_number_to MAX_ALTERNATIVES word then None else Some (SizeRange line)
 size_refusal size line word = None
 
 -- a line, where the number of alternatives is known or isn't, and so many voters came before

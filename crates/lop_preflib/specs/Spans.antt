@@ -2,6 +2,7 @@
 use Rattle.std.specs.Prelude.{◌≡◌, ℕ, ◌-◌, ◌≤◌, ◌^◌, List, length, take, drop, map, All}
 use Rattle.lop_preflib.specs.Profile.{CountedOrder, votes}
 use Rattle.lop_preflib.specs.declared.orders.Span.{Span}
+use Rattle.lop_preflib.specs.declared.profile.TheConstants.{MAX_VOTERS}
 
 -- the order whose objects lie at this span
 abbrev pub order_in : List ℕ → Span → CountedOrder
@@ -16,4 +17,4 @@ pub record IsWithin (n : ℕ) (span : Span) : Type 0 where
 pub record AreSpans (objects : List ℕ) (spans : List Span) (voters : ℕ) : Type 0 where
   pub within : All (IsWithin (length objects)) spans
   pub votes_sum : voters ≡ votes (map (order_in objects) spans)
-  pub few : voters ≤ 10 ^ 18
+  pub few : voters ≤ MAX_VOTERS

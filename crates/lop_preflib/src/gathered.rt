@@ -13,7 +13,7 @@ use crate::line::{Line, kind_of};
 use crate::names::Names;
 use crate::order::read_order;
 use crate::orders::Orders;
-use crate::profile::Profile;
+use crate::profile::{MAX_ALTERNATIVES, Profile};
 use crate::refusal::PrefRefusal;
 use crate::text::number_up_to;
 use std::alloc::Global;
@@ -85,7 +85,7 @@ fn size_after(size: Option<u16>, word: &[u8], number: u64) -> Result<Option<u16>
     if size.is_some() {
         return Ok(size);
     }
-    match number_up_to(word, 512) {
+    match number_up_to(word, u64::from(MAX_ALTERNATIVES)) {
         Some(n) => Ok(Some(n as u16)),
         None => Err(PrefRefusal::SizeRange(number)),
     }

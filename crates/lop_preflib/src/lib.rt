@@ -11,10 +11,8 @@ mod orders;
 mod preflib;
 mod profile;
 mod refusal;
-#[cfg(test)]
-mod tests;
 mod text;
 
 pub use preflib::read_preflib;
-pub use profile::Profile;
+pub use profile::{MAX_ALTERNATIVES, MAX_VOTERS, Profile};
 pub use refusal::PrefRefusal;

@@ -3,6 +3,7 @@ ghost use Rattle.std.specs.Prelude.{◌≡◌, ◌<◌, ◌≤◌, true, false, 
 ghost use Rattle.lop_preflib.specs.Line.{is_metadata};
 ghost use Rattle.lop_preflib.specs.Kind.{IsKind, IsTold, AreNames, no_name, only_name};
 
+use crate::profile::MAX_ALTERNATIVES;
 use crate::text::{behind, blank_len, cut, number_up_to, trim};
 
 const SIZE_LABEL: &[u8] = b"NUMBER ALTERNATIVES:";
@@ -62,6 +63,6 @@ fn named(text: &[u8]) -> Option<(u16, &[u8])>
 {
     let naming = behind(NAME_LABEL, text)?;
     let (word, name) = cut(b':', naming)?;
-    let number = number_up_to(word, 512)?;
+    let number = number_up_to(word, u64::from(MAX_ALTERNATIVES))?;
     Some((number as u16, trim(name)))
 }

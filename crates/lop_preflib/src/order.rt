@@ -7,11 +7,9 @@ ghost use Rattle.lop_preflib.specs.Reading.{order_of};
 ghost use Rattle.lop_preflib.specs.Steps.{IsStop, IsOrderRead};
 
 use crate::items::Items;
+use crate::profile::{MAX_ALTERNATIVES, MAX_VOTERS};
 use crate::refusal::PrefRefusal;
 use crate::text::{cut, has_either, number_up_to, trim};
-
-// The greatest count, and the greatest number of voters.
-const MOST: u64 = 1_000_000_000_000_000_000;
 
 fn has_brace(list: &[u8]) -> bool
     ensures { result ≡ list_any is_brace list.now }
@@ -27,22 +25,22 @@ pub(crate) fn read_order(
     number: u64,
     ranked: &mut Vec<u16>,
 ) -> Result<u64, PrefRefusal>
-    requires within_limit { n ≤ 512 }
-    requires few { voters ≤ 10 ^ 18 }
+    requires within_limit { n ≤ MAX_ALTERNATIVES }
+    requires few { voters ≤ MAX_VOTERS }
     ensures order { IfOk result (λ count. IsOrderRead line.now n voters number count ranked.new.items) }
     ensures refusal { IfErr result (IsStop (order_refusal n voters number line.now)) }
 {
     let Some((front, list)) = cut(b':', trim(line)) else {
         return Err(PrefRefusal::BadLine(number));
     };
-    let Some(count) = number_up_to(trim(front), MOST) else {
+    let Some(count) = number_up_to(trim(front), MAX_VOTERS) else {
         return Err(PrefRefusal::BadCount(number));
     };
     if has_brace(list) {
         return Err(PrefRefusal::Ties(number));
     }
     read_items(list, n, number, ranked)?;
-    if voters + count > MOST {
+    if voters + count > MAX_VOTERS {
         return Err(PrefRefusal::TooMany(number));
     }
     Ok(count)
@@ -50,7 +48,7 @@ pub(crate) fn read_order(
 
 // Notes a number, and answers whether it was noted before.
 fn note(seen: &mut [bool; 513], number: u16) -> bool
-    requires { number ≤ 512 }
+    requires { number ≤ MAX_ALTERNATIVES }
     ensures stood { result ≡ slice_index_or seen.old number false }
     ensures noted { seen.new ≡ slice_set seen.old number true }
 {
@@ -61,7 +59,7 @@ fn note(seen: &mut [bool; 513], number: u16) -> bool
 
 // Reads the items of an order.
 fn read_items(list: &[u8], n: u16, number: u64, ranked: &mut Vec<u16>) -> Result<(), PrefRefusal>
-    requires { n ≤ 512 }
+    requires { n ≤ MAX_ALTERNATIVES }
     ensures ranked { OnOk result (ranked.new.items ≡ map object_of (items_in list.now)) }
     ensures good { OnOk result (items_refusal n number (items_in list.now) ≡ None) }
     ensures refusal { IfErr result (IsStop (items_refusal n number (items_in list.now))) }

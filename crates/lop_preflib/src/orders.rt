@@ -1,6 +1,7 @@
 // The orders of voters.
 ghost use Rattle.std.specs.Prelude.{◌≡◌, ◌+◌, ◌<◌, ◌≤◌, ◌^◌, ◌++◌, ◌∷◌, [], length, OnOk};
 ghost use Rattle.lop_preflib.specs.Profile.{votes, order_at};
+ghost use Rattle.lop_preflib.specs.declared.profile.TheConstants.{MAX_VOTERS};
 
 use std::alloc::{AllocError, Global};
 use std::marker::Model;
@@ -46,7 +47,7 @@ impl Orders {
 
     pub(crate) fn len(&self) -> usize
         ensures len { result ≡ length self.now }
-        ensures few { votes self.now ≤ 10 ^ 18 }
+        ensures few { votes self.now ≤ MAX_VOTERS }
     {
         self.spans.len()
     }
@@ -54,14 +55,14 @@ impl Orders {
     /// The sum of the counts.
     pub(crate) fn voters(&self) -> u64
         ensures votes { result ≡ votes self.now }
-        ensures few { result ≤ 10 ^ 18 }
+        ensures few { result ≤ MAX_VOTERS }
     {
         self.voters
     }
 
     /// One order more.
     pub(crate) fn push(&mut self, count: u64, ranked: &[u16]) -> Result<(), AllocError>
-        requires { votes self.old + count ≤ 10 ^ 18 }
+        requires { votes self.old + count ≤ MAX_VOTERS }
         ensures { OnOk result (self.new ≡ self.old ++ record { count = count; ranked = ranked.now } ∷ []) }
     {
         let start = self.objects.len();

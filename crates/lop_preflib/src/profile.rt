@@ -6,6 +6,12 @@ use crate::names::Names;
 use crate::orders::Orders;
 use std::marker::Model;
 
+/// The most alternatives.
+pub const MAX_ALTERNATIVES: u16 = 512;
+
+/// The most voters.
+pub const MAX_VOTERS: u64 = 1_000_000_000_000_000_000;
+
 /// The orders of voters over n alternatives, n from 1 to 512, and the names of these. Objects count from 0. A
 /// contract sees n, the list of the n names, and the list of the orders, each a count and a ranked list.
 #[derive(Drop)]

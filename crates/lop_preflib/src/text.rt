@@ -4,6 +4,7 @@ ghost use Rattle.std.specs.List.{prefix_len, suffix_len, list_any, before_first,
 ghost use Rattle.lop_desk.specs.Number.{all_digits, digits_value};
 ghost use Rattle.lop_preflib.specs.Text.{is_blank, trim, is_number_to, begins_with};
 
+use crate::profile::MAX_VOTERS;
 use memchr::{memchr, memchr2};
 
 fn is_blank(byte: u8) -> bool
@@ -80,7 +81,7 @@ pub(crate) fn behind<'a>(label: &[u8], bytes: &'a [u8]) -> Option<&'a [u8]>
 }
 
 // More than any number that is asked for.
-const CAP: u64 = 1_000_000_000_000_000_001;
+const CAP: u64 = MAX_VOTERS + 1;
 
 // The value of digits, where all bytes are, but at most `CAP`.
 fn capped_value(word: &[u8]) -> Option<u64>
@@ -99,7 +100,7 @@ fn capped_value(word: &[u8]) -> Option<u64>
 
 /// The value of a digit word, where it is from 1 to `most`. O(k) for k bytes.
 pub(crate) fn number_up_to(word: &[u8], most: u64) -> Option<u64>
-    requires { most ≤ 10 ^ 18 }
+    requires { most ≤ MAX_VOTERS }
     ensures { MatchOption result (is_number_to most word.now ≡ false)
         (λ n. (is_number_to most word.now ≡ true) × (n ≡ digits_value word.now) × (1 ≤ n) × (n ≤ most)) }
 {

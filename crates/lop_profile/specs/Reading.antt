@@ -1,5 +1,6 @@
 -- The weights that a profile means.
-use Rattle.std.specs.Prelude.{◌≡◌, ◌^◌, pos, int_lt, Result, Ok, Err, if◌then◌else◌}
+use Rattle.std.specs.Prelude.{◌≡◌, int_lt, Result, Ok, Err, if◌then◌else◌}
+use Rattle.lop_model.specs.declared.weights.TheConstants.{MAX_ABSOLUTE_SUM}
 use Rattle.lop_model.specs.Matrix.{Matrix, total}
 use Rattle.lop_preflib.specs.Profile.{ProfileFields}
 use Rattle.lop_profile.specs.Preference.{preference_matrix}
@@ -8,7 +9,7 @@ use Rattle.lop_profile.specs.declared.profile.ProfileFault.TheVariants.{TooHeavy
 
 -- the matrix, where its entries sum to at most 10^18
 abbrev pub weighed : Matrix → Result Matrix ProfileFault
-weighed C = if int_lt (pos (10 ^ 18)) (total C) then Err (TooHeavy (total C)) else Ok C
+weighed C = if int_lt MAX_ABSOLUTE_SUM (total C) then Err (TooHeavy (total C)) else Ok C
 
 -- the weights of a profile, or why they are refused
 abbrev pub profile_reading : ProfileFields → Result Matrix ProfileFault

@@ -2,6 +2,7 @@
 ghost use Rattle.std.specs.Prelude.{◌≡◌, ◌≢◌, ℕ, ◌+◌, ◌*◌, ◌<◌, ◌≤◌, ◌^◌, All, length, drop, slice_index, if◌then◌else◌};
 ghost use Rattle.lop_profile.specs.Preference.{stands_in, ranks_before};
 ghost use Rattle.lop_profile.specs.Cells.{IsRanking};
+ghost use Rattle.lop_model.specs.declared.weights.TheConstants.{MAX_OBJECTS};
 
 // Adds a count to each of these places of a row.
 fn add_row(row: &mut [u64], count: u64, places: &[u16])
@@ -25,7 +26,7 @@ fn later(ranked: &[u16], place: usize) -> &[u16]
 /// Adds a count to the cells of all pairs that an order ranks, in n rows of n cells. O(k²) for k objects.
 pub(crate) fn add_order(cells: &mut [u64], n: usize, count: u64, ranked: &[u16])
     requires square { length cells.old ≡ n * n }
-    requires within_limit { n ≤ 512 }
+    requires within_limit { n ≤ MAX_OBJECTS }
     requires ranked { IsRanking n ranked.now }
     requires small { All (λ cell. cell + count ≤ 10 ^ 18) cells.old }
     ensures { (i j : ℕ) → i < n → j < n → slice_index cells.new (i * n + j) ≡ slice_index cells.old (i * n + j) + (if ranks_before ranked.now i j then count else 0) }

@@ -7,6 +7,7 @@ ghost use Rattle.lop_model.specs.Matrix.{total};
 ghost use Rattle.lop_preflib.specs.Profile.{votes};
 ghost use Rattle.lop_report.specs.Lines.{number_line, status_line, linearity_line};
 ghost use Rattle.lop_report.specs.AnswerText.{order_lines, figure_lines, voter_lines, ranking, value_lines, bound_lines, solve_text, value_text, gen_text, accepted_text};
+ghost use Rattle.lop_model.specs.declared.weights.TheConstants.{MAX_OBJECTS};
 
 use crate::figures::disagreements;
 use crate::lines::{
@@ -60,7 +61,7 @@ fn print_order_lines<D: Desk>(
     desk: &mut D,
     room: &mut TextRoom,
 ) -> Result<(), DeskFailed>
-    requires { length order.now ≤ 512 }
+    requires { length order.now ≤ MAX_OBJECTS }
     ensures effect { PrintsAll (D.told desk.old) (D.told desk.new) (order_lines (length order.now) order.now answer.now.value answer.now.bound) result }
     ensures cause { HasCause (D.faults desk.old) (D.faults desk.new) result }
 {
@@ -128,7 +129,7 @@ fn print_ranking<D: Desk>(
     desk: &mut D,
     room: &mut TextRoom,
 ) -> Result<(), DeskFailed>
-    requires few { length order.now ≤ 512 }
+    requires few { length order.now ≤ MAX_OBJECTS }
     requires profile { IfSome (option_copied profile) (λ p. length order.now ≡ p.size) }
     ensures effect { PrintsAll (D.told desk.old) (D.told desk.new) (ranking (option_copied profile.entry) order.now) result }
     ensures cause { HasCause (D.faults desk.old) (D.faults desk.new) result }

@@ -6,8 +6,6 @@ mod degree;
 mod figures;
 mod lines;
 mod ranks;
-#[cfg(test)]
-mod tests;
 
 pub use answer::{Answer, print_accepted, print_answer, print_generated, print_value};
 pub use degree::Linearity;

@@ -5,6 +5,7 @@ ghost use Rattle.lop_desk.specs.Whole.{PrintsAll};
 ghost use Rattle.lop_desk.specs.Causes.{HasCause};
 ghost use Rattle.lop_report.specs.Lines.{number_line, order_line, object_word, status_line, check_status_line, linearity_line, linearity_text};
 ghost use Rattle.lop_report.specs.declared.degree.Linearity.TheVariants.{Parts};
+ghost use Rattle.lop_model.specs.declared.weights.TheConstants.{MAX_OBJECTS};
 
 use crate::degree::Linearity;
 use crate::figures::{four_digits, linearity};
@@ -54,7 +55,7 @@ pub fn print_order<D: Desk>(
     desk: &mut D,
     room: &mut TextRoom,
 ) -> Result<(), DeskFailed>
-    requires { length order.now ≤ 512 }
+    requires { length order.now ≤ MAX_OBJECTS }
     ensures effect { PrintsAll (D.told desk.old) (D.told desk.new) (order_line order.now) result }
     ensures cause { HasCause (D.faults desk.old) (D.faults desk.new) result }
 {
@@ -66,10 +67,10 @@ pub fn print_order<D: Desk>(
 }
 
 fn put_objects(order: &Order, room: &mut TextRoom)
-    requires order { length order.now ≤ 512 }
+    requires order { length order.now ≤ MAX_OBJECTS }
     requires room { length room.old ≤ 64 }
     ensures text { room.new ≡ room.old ++ flat_map object_word order.now }
-    ensures short { length room.new ≤ length room.old + 6 * 512 }
+    ensures short { length room.new ≤ length room.old + 6 * MAX_OBJECTS }
 {
     for place in 0..order.n() {
         put_object(order.at(place), room);
@@ -78,7 +79,7 @@ fn put_objects(order: &Order, room: &mut TextRoom)
 
 /// Appends an object with a blank before it. Objects count from 1 in every text.
 pub fn put_object(object: u16, room: &mut TextRoom)
-    requires object { object < 512 }
+    requires object { object < MAX_OBJECTS }
     requires room { length room.old ≤ 65536 }
     ensures text { room.new ≡ room.old ++ object_word object }
     ensures short { length room.new ≤ length room.old + 6 }

@@ -3,6 +3,7 @@ ghost use Rattle.std.specs.Prelude.{◌≡◌, ◌≤◌, ◌<◌, ◌+◌, ◌+
 ghost use Rattle.lop_desk.specs.Whole.{PrintsAll};
 ghost use Rattle.lop_desk.specs.Causes.{HasCause};
 ghost use Rattle.lop_report.specs.Lines.{rank_words, named_line, rank_lines};
+ghost use Rattle.lop_model.specs.declared.weights.TheConstants.{MAX_OBJECTS};
 
 use crate::lines::put_object;
 use itoa::Buffer;
@@ -18,7 +19,7 @@ pub fn print_ranks<D: Desk>(
     desk: &mut D,
     room: &mut TextRoom,
 ) -> Result<(), DeskFailed>
-    requires few { length order.now ≤ 512 }
+    requires few { length order.now ≤ MAX_OBJECTS }
     requires same_n { length order.now ≡ profile.now.size }
     ensures effect { PrintsAll (D.told desk.old) (D.told desk.new) (rank_lines profile.now.names order.now) result }
     ensures cause { HasCause (D.faults desk.old) (D.faults desk.new) result }
@@ -37,8 +38,8 @@ fn print_rank<D: Desk>(
     desk: &mut D,
     room: &mut TextRoom,
 ) -> Result<(), DeskFailed>
-    requires place { place < 512 }
-    requires object { object < 512 }
+    requires place { place < MAX_OBJECTS }
+    requires object { object < MAX_OBJECTS }
     ensures effect { PrintsAll (D.told desk.old) (D.told desk.new) (named_line place object name.now) result }
     ensures cause { HasCause (D.faults desk.old) (D.faults desk.new) result }
 {
@@ -53,8 +54,8 @@ fn print_rank<D: Desk>(
 }
 
 fn put_rank(place: u16, object: u16, room: &mut TextRoom)
-    requires place { place < 512 }
-    requires object { object < 512 }
+    requires place { place < MAX_OBJECTS }
+    requires object { object < MAX_OBJECTS }
     requires room { length room.old ≤ 1024 }
     ensures text { room.new ≡ room.old ++ rank_words place object }
     ensures short { length room.new ≤ length room.old + 64 }

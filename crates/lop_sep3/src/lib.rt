@@ -4,6 +4,3 @@
 mod dicycles;
 
 pub use dicycles::{Found, violated_dicycles};
-
-#[cfg(test)]
-mod tests;

@@ -2,6 +2,7 @@
 // lie in a table of n rows of n, of which the places above the diagonal are used.
 ghost use Rattle.std.specs.Prelude.{◌≡◌, ◌*◌, ◌<◌, ◌≤◌, length};
 ghost use Rattle.lop_cuts.specs.Kind.{IsArcBelow};
+ghost use Rattle.lop_model.specs.declared.weights.TheConstants.{MAX_OBJECTS};
 
 use lop_model::Pair;
 
@@ -10,7 +11,7 @@ pub const ONE: i64 = 4_294_967_296;
 
 /// Where a variable stands.
 #[derive(Clone, Copy, Debug, PartialEq, Eq)]
-pub enum Standing {
+pub enum BasisStatus {
     /// At 0.
     Low,
     /// At 1.
@@ -27,7 +28,7 @@ pub enum Standing {
 #[derive(Clone, Copy, Debug)]
 pub struct Column {
     pub objective: i64,
-    pub standing: Standing,
+    pub status: BasisStatus,
     pub level: i64,
     pub reduced: i64,
     pub slope: i64,
@@ -37,7 +38,7 @@ impl Column {
     /// A variable at 0 that the objective doesn't name.
     pub const NONE: Column = Column {
         objective: 0,
-        standing: Standing::Low,
+        status: BasisStatus::Low,
         level: 0,
         reduced: 0,
         slope: 0,
@@ -45,10 +46,10 @@ impl Column {
 
     /// Its value, in units of 2^-32.
     pub fn value(&self) -> i64 {
-        match self.standing {
-            Standing::Low | Standing::FixedLow => 0,
-            Standing::High | Standing::FixedHigh => ONE,
-            Standing::Basic => self.level.clamp(0, ONE),
+        match self.status {
+            BasisStatus::Low | BasisStatus::FixedLow => 0,
+            BasisStatus::High | BasisStatus::FixedHigh => ONE,
+            BasisStatus::Basic => self.level.clamp(0, ONE),
         }
     }
 }
@@ -64,7 +65,7 @@ pub enum Head {
 
 /// The place of an arc's variable in the table.
 pub fn place_of(n: usize, arc: Pair) -> usize
-    requires within_limit { n ≤ 512 }
+    requires within_limit { n ≤ MAX_OBJECTS }
     requires before { arc.before < n }
     requires after { arc.after < n }
     ensures { result < n * n }

@@ -10,8 +10,6 @@ mod room;
 mod rows;
 mod run;
 mod shift;
-#[cfg(test)]
-mod tests;
 mod write;
 
 pub use answer::{LpStop, RowReply};

@@ -1,7 +1,7 @@
 // The linear program before its first row.
 ghost use Rattle.std.specs.Prelude.{◌≡◌, ◌*◌, ◌<◌, ◌≤◌, length};
 
-use crate::column::{Column, Head, ONE, Standing};
+use crate::column::{BasisStatus, Column, Head, ONE};
 use lop_fix::{Decision, Fixings};
 use lop_model::Weights;
 
@@ -13,14 +13,14 @@ fn loaded_column(weights: &Weights, fixings: &Fixings, shift: u32, a: u16, b: u1
     requires second { b < weights.now.size }
 {
     let objective = (weights.margin(a, b) >> shift).saturating_mul(ONE);
-    let standing = match fixings.decided(a, b) {
-        Decision::Before => Standing::FixedHigh,
-        Decision::After => Standing::FixedLow,
-        Decision::Undecided => Standing::Low,
+    let status = match fixings.decided(a, b) {
+        Decision::Before => BasisStatus::FixedHigh,
+        Decision::After => BasisStatus::FixedLow,
+        Decision::Undecided => BasisStatus::Low,
     };
     Column {
         objective,
-        standing,
+        status,
         ..Column::NONE
     }
 }

@@ -1,8 +1,9 @@
 // The passes of a bounded dual simplex over the rows and the columns.
 ghost use Rattle.std.specs.Prelude.{◌≡◌, ◌*◌, ◌<◌, ◌≤◌, length, All, IfSome};
 ghost use Rattle.lop_cuts.specs.Kind.{IsArcBelow, FitsCut};
+ghost use Rattle.lop_model.specs.declared.weights.TheConstants.{MAX_OBJECTS};
 
-use crate::column::{Column, Head, ONE, Standing, place_of, signed};
+use crate::column::{BasisStatus, Column, Head, ONE, place_of, signed};
 use lop_cuts::Cut;
 use lop_model::Pair;
 
@@ -15,10 +16,10 @@ const LEAST_SLOPE: i64 = 1_048_576;
 /// Puts each free variable at the side that its reduced objective asks for. O(n²).
 pub fn take_sides(table: &mut [Column]) {
     for column in table.iter_mut() {
-        if column.standing == Standing::Low && column.reduced > 0 {
-            column.standing = Standing::High;
-        } else if column.standing == Standing::High && column.reduced < 0 {
-            column.standing = Standing::Low;
+        if column.status == BasisStatus::Low && column.reduced > 0 {
+            column.status = BasisStatus::High;
+        } else if column.status == BasisStatus::High && column.reduced < 0 {
+            column.status = BasisStatus::Low;
         }
     }
 }
@@ -26,8 +27,8 @@ pub fn take_sides(table: &mut [Column]) {
 /// Back to what the objective alone says: no variable is basic. O(n²).
 pub fn leave_basis(table: &mut [Column]) {
     for column in table.iter_mut() {
-        if column.standing == Standing::Basic {
-            column.standing = Standing::Low;
+        if column.status == BasisStatus::Basic {
+            column.status = BasisStatus::Low;
         }
         column.reduced = column.objective;
     }
@@ -37,15 +38,15 @@ pub fn leave_basis(table: &mut [Column]) {
 /// What the row of these arcs leaves to its basic variables of a right side. O(arcs).
 fn rest_of(table: &[Column], n: usize, arcs: &[Pair], side: i64) -> i64
     requires square { length table.now ≡ n * n }
-    requires within_limit { n ≤ 512 }
+    requires within_limit { n ≤ MAX_OBJECTS }
     requires below { All (IsArcBelow n) arcs.now }
 {
     let mut rest = side;
     for arc in arcs {
         let column = table[place_of(n, *arc)];
         let turned = if arc.before < arc.after { 0 } else { ONE };
-        let fixed = match column.standing {
-            Standing::High | Standing::FixedHigh => signed(*arc, ONE),
+        let fixed = match column.status {
+            BasisStatus::High | BasisStatus::FixedHigh => signed(*arc, ONE),
             _ => 0,
         };
         rest = rest.saturating_sub(turned).saturating_sub(fixed);
@@ -56,7 +57,7 @@ fn rest_of(table: &[Column], n: usize, arcs: &[Pair], side: i64) -> i64
 /// Writes what each row leaves to its basic variables. O(arcs of all rows).
 pub fn write_rests(table: &[Column], n: usize, rows: &[Cut], out: &mut [i64])
     requires square { length table.now ≡ n * n }
-    requires within_limit { n ≤ 512 }
+    requires within_limit { n ≤ MAX_OBJECTS }
     requires fit { All (FitsCut n) rows.now }
     requires out { length out.old ≡ length rows.now }
 {
@@ -82,7 +83,7 @@ pub fn write_costs(table: &[Column], heads: &[Head], out: &mut [i64])
 /// Takes a multiple of a row from the reduced objectives. O(arcs).
 fn reduce_by(table: &mut [Column], n: usize, arcs: &[Pair], price: i64)
     requires square { length table.old ≡ n * n }
-    requires within_limit { n ≤ 512 }
+    requires within_limit { n ≤ MAX_OBJECTS }
     requires below { All (IsArcBelow n) arcs.now }
 {
     for arc in arcs {
@@ -94,7 +95,7 @@ fn reduce_by(table: &mut [Column], n: usize, arcs: &[Pair], price: i64)
 /// Computes the reduced objectives at these prices of the rows. O(n² + arcs of all rows).
 pub fn reduce(table: &mut [Column], n: usize, rows: &[Cut], prices: &[i64])
     requires square { length table.old ≡ n * n }
-    requires within_limit { n ≤ 512 }
+    requires within_limit { n ≤ MAX_OBJECTS }
     requires fit { All (FitsCut n) rows.now }
     requires prices { length prices.now ≡ length rows.now }
 {
@@ -111,7 +112,7 @@ pub fn reduce(table: &mut [Column], n: usize, rows: &[Cut], prices: &[i64])
 /// Adds a multiple of a row to the slopes. O(arcs).
 fn slope_by(table: &mut [Column], n: usize, arcs: &[Pair], entry: i64)
     requires square { length table.old ≡ n * n }
-    requires within_limit { n ≤ 512 }
+    requires within_limit { n ≤ MAX_OBJECTS }
     requires below { All (IsArcBelow n) arcs.now }
 {
     for arc in arcs {
@@ -123,7 +124,7 @@ fn slope_by(table: &mut [Column], n: usize, arcs: &[Pair], entry: i64)
 /// Computes the slopes: the pivot row's entries at the variables. O(n² + arcs of all rows).
 pub fn slope(table: &mut [Column], n: usize, rows: &[Cut], entries: &[i64])
     requires square { length table.old ≡ n * n }
-    requires within_limit { n ≤ 512 }
+    requires within_limit { n ≤ MAX_OBJECTS }
     requires fit { All (FitsCut n) rows.now }
     requires entries { length entries.now ≡ length rows.now }
 {
@@ -198,9 +199,9 @@ fn free_slope(column: &Column, above: bool) -> i64 {
     } else {
         column.slope.saturating_neg()
     };
-    match column.standing {
-        Standing::Low => toward,
-        Standing::High => toward.saturating_neg(),
+    match column.status {
+        BasisStatus::Low => toward,
+        BasisStatus::High => toward.saturating_neg(),
         _ => 0,
     }
 }
@@ -246,7 +247,7 @@ pub fn first_to_enter(
 
 /// The coefficient of a variable in the row of these arcs. O(arcs).
 fn coefficient(n: usize, arcs: &[Pair], place: usize) -> i64
-    requires within_limit { n ≤ 512 }
+    requires within_limit { n ≤ MAX_OBJECTS }
     requires below { All (IsArcBelow n) arcs.now }
 {
     let mut sum: i64 = 0;
@@ -265,7 +266,7 @@ fn one_at(row: usize, at: usize) -> i64 {
 
 /// Writes the column of what enters. O(arcs of all rows).
 pub fn write_column(n: usize, rows: &[Cut], head: Head, out: &mut [i64])
-    requires within_limit { n ≤ 512 }
+    requires within_limit { n ≤ MAX_OBJECTS }
     requires fit { All (FitsCut n) rows.now }
     requires out { length out.old ≡ length rows.now }
 {
@@ -278,11 +279,11 @@ pub fn write_column(n: usize, rows: &[Cut], head: Head, out: &mut [i64])
     }
 }
 
-/// Gives a variable another standing; slacks have none.
-pub fn set_standing(table: &mut [Column], head: Head, standing: Standing) {
+/// Gives a variable another status; slacks have none.
+pub fn set_status(table: &mut [Column], head: Head, status: BasisStatus) {
     if let Head::Pair(place) = head {
         if place < table.len() {
-            table[place].standing = standing;
+            table[place].status = status;
         }
     }
 }

@@ -40,17 +40,19 @@ impl Model for LpRoom {
     ghost use Rattle.std.specs.Prelude.{◌≡◌, ◌≤◌, ◌*◌, IsTrue};
     ghost use Rattle.std.specs.Vec.{vec_len, vec_capacity};
     ghost use Rattle.lop_simplex.specs.Lp.{Lp, IsLp};
+    ghost use Rattle.lop_model.specs.declared.weights.TheConstants.{MAX_OBJECTS};
 
     ghost Value = { Lp };
 
     ghost view = { λ r. record { size = r.size; shift = r.shift; rows = r.rows.items; duals = r.duals.items; point = r.point; done = r.basis.done; refused = r.basis.refused } };
 
     ghost invariant = { λ r. IsLp (record { size = r.size; shift = r.shift; rows = r.rows.items; duals = r.duals.items; point = r.point; done = r.basis.done; refused = r.basis.refused })
-        × (r.size ≤ 512) × (1024 ≤ vec_capacity r.rows) × (1024 ≤ vec_capacity r.duals) × (r.basis.room ≡ 1024)
+        × (r.size ≤ MAX_OBJECTS) × (1024 ≤ vec_capacity r.rows) × (1024 ≤ vec_capacity r.duals) × (r.basis.room ≡ 1024)
         × (vec_len r.table ≡ r.size * r.size) × (vec_len r.heads ≡ 1024) × (vec_len r.input ≡ 1024) × (vec_len r.output ≡ 1024) × (vec_len r.prices ≡ 1024) };
 }
 
 impl LpRoom {
+    ghost use Rattle.lop_model.specs.declared.weights.TheConstants.{MAX_OBJECTS};
     ghost use Rattle.lop_simplex.specs.Shift.{IsLeastShift};
     ghost use Rattle.lop_simplex.specs.Lp.{IsLp};
     ghost use Rattle.lop_simplex.specs.Answers.{IsRowReply, after_reply, IsStop, IsSublist};
@@ -58,7 +60,7 @@ impl LpRoom {
     /// Takes room for 1,024 rows, 8 megabytes, and n² columns. No object weighs anything yet, and there is no row.
     pub fn new(alloc: Global, n: u16) -> Result<Self, AllocError>
         requires positive { 1 ≤ n }
-        requires within_limit { n ≤ 512 }
+        requires within_limit { n ≤ MAX_OBJECTS }
         ensures lp { IfOk result IsLp }
         ensures empty { IfOk result (λ p. p ≡ record { size = n; shift = 0; rows = []; duals = []; point = halves n; done = 0; refused = 0 }) }
     {

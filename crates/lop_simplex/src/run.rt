@@ -5,12 +5,13 @@ ghost use Rattle.lop_cuts.specs.Kind.{FitsCut};
 ghost use Rattle.lop_basis.specs.Basis.{one_more};
 ghost use Rattle.lop_simplex.specs.Answers.{IsStop};
 ghost use Rattle.lop_simplex.specs.Run.{IsReady, HasMoved, IsStep};
+ghost use Rattle.lop_model.specs.declared.weights.TheConstants.{MAX_OBJECTS};
 
 use crate::LpStop;
-use crate::column::{Column, Head, Standing};
+use crate::column::{BasisStatus, Column, Head};
 use crate::load::{clear_prices, take_slacks};
 use crate::pass::{
-    first_to_enter, leave_basis, leaving, reduce, set_standing, slope, take_sides, write_column,
+    first_to_enter, leave_basis, leaving, reduce, set_status, slope, take_sides, write_column,
     write_costs, write_rests,
 };
 use crate::write::write_levels;
@@ -39,7 +40,7 @@ fn prepare(
 ) -> bool
     requires basis { IsReady (length rows.now) basis.old }
     requires square { length table.old ≡ n * n }
-    requires within_limit { n ≤ 512 }
+    requires within_limit { n ≤ MAX_OBJECTS }
     requires fit { All (FitsCut n) rows.now }
     requires heads { length heads.now ≡ length rows.now }
     requires input { length input.old ≡ length rows.now }
@@ -85,7 +86,7 @@ fn exchange(
     head: Head,
 ) -> bool
     requires basis { IsReady (length rows.now) basis.old }
-    requires within_limit { n ≤ 512 }
+    requires within_limit { n ≤ MAX_OBJECTS }
     requires fit { All (FitsCut n) rows.now }
     requires input { length input.old ≡ length rows.now }
     requires output { length output.old ≡ length rows.now }
@@ -117,7 +118,7 @@ fn make_step(
 ) -> Step
     requires basis { IsReady (length rows.now) basis.old }
     requires square { length table.old ≡ n * n }
-    requires within_limit { n ≤ 512 }
+    requires within_limit { n ≤ MAX_OBJECTS }
     requires fit { All (FitsCut n) rows.now }
     requires heads { length heads.old ≡ length rows.now }
     requires input { length input.old ≡ length rows.now }
@@ -140,9 +141,13 @@ fn make_step(
     if !exchange(basis, n, rows, input, output, place, head) {
         return Step::Refused;
     }
-    let side = if above { Standing::High } else { Standing::Low };
-    set_standing(table, heads[place], side);
-    set_standing(table, head, Standing::Basic);
+    let side = if above {
+        BasisStatus::High
+    } else {
+        BasisStatus::Low
+    };
+    set_status(table, heads[place], side);
+    set_status(table, head, BasisStatus::Basic);
     heads[place] = head;
     Step::Pivoted
 }
@@ -162,7 +167,7 @@ pub fn simplex(
     requires basis { IsReady (length rows.now) basis.old }
     requires none_done { basis.old.done ≡ 0 }
     requires square { length table.old ≡ n * n }
-    requires within_limit { n ≤ 512 }
+    requires within_limit { n ≤ MAX_OBJECTS }
     requires fit { All (FitsCut n) rows.now }
     requires heads { length heads.old ≡ length rows.now }
     requires input { length input.old ≡ length rows.now }
@@ -198,7 +203,7 @@ pub fn run_in(
     requires basis { basis.old.room ≡ 1024 }
     requires at_most { length rows.now ≤ 1024 }
     requires square { length table.old ≡ n * n }
-    requires within_limit { n ≤ 512 }
+    requires within_limit { n ≤ MAX_OBJECTS }
     requires fit { All (FitsCut n) rows.now }
     requires heads { length heads.old ≡ 1024 }
     requires input { length input.old ≡ 1024 }

@@ -7,6 +7,8 @@ use Rattle.lop_words.specs.declared.command.Command.TheVariants.{Solve, Check, V
 use Rattle.lop_words.specs.declared.command.Format.{Format}
 use Rattle.lop_words.specs.Word.{is_name_word, format_of, is_seed, is_size}
 use Rattle.lop_words.specs.Options.{value_of, are_options, workers_of, budget_of, certificate_of}
+use Rattle.lop_words.specs.declared.read.TheConstants.{MOST_OBJECTS}
+use Rattle.lop_words.specs.declared.options.TheConstants.{MOST_NODES, MOST_WORKERS}
 
 -- `solve` with what its options say
 abbrev pub solve_with : Format → List ℕ → Option ℕ → Option ℕ → Option (Option (List ℕ)) → Option Command
@@ -22,7 +24,10 @@ solve_options = codes "--workers" ∷ codes "--nodes" ∷ codes "--cert" ∷ []
 -- behind FILE stand options of `solve`, in any order
 abbrev pub solve_command : Format → List ℕ → List (List ℕ) → Option Command
 solve_command format file words =
-    if are_options solve_options words then solve_with format file (workers_of (value_of (codes "--workers") words)) (budget_of (value_of (codes "--nodes") words)) (certificate_of file (value_of (codes "--cert") words)) else None
+    if are_options solve_options words
+    then solve_with format file (workers_of (value_of (codes "--workers") words)) (budget_of (value_of (codes "--nodes") words))
+    (certificate_of file (value_of (codes "--cert") words))
+    else None
 
 -- behind FILE stands the certificate's name
 abbrev pub check_command : Format → List ℕ → List (List ℕ) → Option Command
@@ -61,6 +66,6 @@ command_of (verb ∷ first ∷ second ∷ words) = if bytes_eq verb (codes "gen"
 
 -- the numbers of workers, nodes and objects are within their limits
 abbrev pub IsWithinLimits : Command → Type 0
-IsWithinLimits (Solve format file workers nodes cert) = (1 ≤ workers) × (workers ≤ 16) × (1 ≤ nodes) × (nodes ≤ 1000000)
-IsWithinLimits (Gen seed n) = (1 ≤ n) × (n ≤ 512)
+IsWithinLimits (Solve format file workers nodes cert) = (1 ≤ workers) × (workers ≤ MOST_WORKERS) × (1 ≤ nodes) × (nodes ≤ MOST_NODES)
+IsWithinLimits (Gen seed n) = (1 ≤ n) × (n ≤ MOST_OBJECTS)
 IsWithinLimits other = ⊤

@@ -4,6 +4,8 @@ use Rattle.std.specs.Str.{bytes_eq}
 use Rattle.lop_desk.specs.Number.{digits_value, is_plain_word}
 use Rattle.lop_words.specs.declared.command.Format.{Format}
 use Rattle.lop_words.specs.declared.command.Format.TheVariants.{Lolib, Preflib}
+use Rattle.lop_words.specs.declared.read.TheConstants.{MOST_OBJECTS}
+use Rattle.lop_words.specs.declared.options.TheConstants.{MOST_NODES, MOST_WORKERS}
 
 -- a name word isn't empty and doesn't begin with `-`
 abbrev pub is_name_word : List ℕ → Bool
@@ -20,15 +22,15 @@ is_count most word = is_plain_word word && nat_le 1 (digits_value word) && nat_l
 
 -- a number of nodes
 abbrev pub is_budget : List ℕ → Bool
-is_budget word = is_count 1000000 word
+is_budget word = is_count MOST_NODES word
 
 -- a number of workers
 abbrev pub is_workers : List ℕ → Bool
-is_workers word = is_count 16 word
+is_workers word = is_count MOST_WORKERS word
 
 -- a number of objects
 abbrev pub is_size : List ℕ → Bool
-is_size word = is_count 512 word
+is_size word = is_count MOST_OBJECTS word
 
 -- a plain number of 64 bits
 abbrev pub is_seed : List ℕ → Bool

@@ -5,8 +5,6 @@ mod command;
 mod name;
 mod options;
 mod read;
-#[cfg(test)]
-mod tests;
 
 pub use command::{Command, Format, WordsFault};
 pub use name::NameWord;

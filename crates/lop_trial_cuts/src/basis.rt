@@ -1,6 +1,6 @@
 ghost use Rattle.std.specs.Prelude.{◌≡◌, IsTrue};
 
-use crate::{BasisRoom, Pivot, Solved};
+use lop_basis::{BasisRoom, Pivot, Solved};
 use std::alloc::{AllocError, Global};
 use std::test::Fail;
 

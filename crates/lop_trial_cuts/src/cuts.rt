@@ -1,6 +1,6 @@
 ghost use Rattle.std.specs.Prelude.{◌≤◌, ◌^◌};
 
-use super::*;
+use lop_cuts::{Cut, CutFault, CutKind, CutList, Cycle, Point, is_violated};
 use lop_model::Pair;
 use std::test::Fail;
 

@@ -1,7 +1,7 @@
 // Texts that are read, and texts that are refused.
-use crate::LolibRefusal::{BadEntry, BadSize, Empty, Short, SizeRange, TooHeavy, TooWide};
-use crate::OrderRefusal::{BadWord, Length, OutOfRange, Repeated};
-use crate::{LolibRefusal, OrderRefusal, read_lolib, read_order};
+use lop_lolib::LolibRefusal::{BadEntry, BadSize, Empty, Short, SizeRange, TooHeavy, TooWide};
+use lop_lolib::OrderRefusal::{BadWord, Length, OutOfRange, Repeated};
+use lop_lolib::{LolibRefusal, OrderRefusal, read_lolib, read_order};
 use lop_model::Weights;
 use std::alloc::{AllocError, Global};
 use std::process::Abort;

@@ -3,11 +3,12 @@ ghost use Rattle.std.specs.Prelude.{◌≡◌, ◌≤◌, ◌^◌, IfOk, OnOk, I
 ghost use Rattle.lop_desk.specs.Desk.{IsOpen};
 ghost use Rattle.std.specs.Prelude.{Some};
 
-use crate::{
+use lop_desk::{
     Desk, Line, LineReader, LineStop, MemoryDesk, NamedBytes, OpenFault, ReadStop, TextRoom,
     is_whole, plain_number, print_all, read_whole, whole_number, write_all,
 };
 use std::alloc::{AllocError, Global};
+use std::process::Abort;
 use std::test::Fail;
 
 // A desk with one file `a` of these bytes.
@@ -54,48 +55,63 @@ fn line(reader: &mut LineReader, memory: &mut MemoryDesk) -> Result<Option<(usiz
     }
 }
 
+const WHOLE: &[(&str, Option<i128>)] = &[
+    ("+5", Some(5)),
+    ("-0", Some(0)),
+    ("007", Some(7)),
+    ("1000000000000000000", Some(1_000_000_000_000_000_000)),
+    ("0001000000000000000000", Some(1_000_000_000_000_000_000)),
+    ("1000000000000000001", None),
+    ("-1000000000000000000", Some(-1_000_000_000_000_000_000)),
+    ("-1000000000000000001", None),
+    ("99999999999999999999999", None),
+    ("+", None),
+    ("-", None),
+    ("", None),
+    ("1a", None),
+    ("+-1", None),
+];
+
+fn reads_whole(rt: &impl Abort, word: &str, value: Option<i128>) {
+    assert_eq!(rt; whole_number(word.as_bytes()), value, "at {word}");
+}
+
 #[test]
-fn numbers(rt: HostRuntime) {
-    let whole = [
-        ("+5", Some(5)),
-        ("-0", Some(0)),
-        ("007", Some(7)),
-        ("1000000000000000000", Some(1_000_000_000_000_000_000)),
-        ("0001000000000000000000", Some(1_000_000_000_000_000_000)),
-        ("1000000000000000001", None),
-        ("-1000000000000000000", Some(-1_000_000_000_000_000_000)),
-        ("-1000000000000000001", None),
-        ("99999999999999999999999", None),
-        ("+", None),
-        ("-", None),
-        ("", None),
-        ("1a", None),
-        ("+-1", None),
-    ];
-    for (word, value) in whole {
-        assert_eq!(rt; whole_number(word.as_bytes()), value, "at {word}");
+fn whole_numbers(rt: HostRuntime) {
+    for (word, value) in WHOLE {
+        reads_whole(&rt, word, *value);
     }
-    let spelled = [
-        ("99999999999999999999999", true),
-        ("-00", true),
-        ("+", false),
-        ("1 ", false),
-    ];
-    for (word, answer) in spelled {
-        assert_eq!(rt; is_whole(word.as_bytes()), answer, "at {word}");
+}
+
+const SPELLED: &[(&str, bool)] = &[
+    ("99999999999999999999999", true),
+    ("-00", true),
+    ("+", false),
+    ("1 ", false),
+];
+
+const PLAIN: &[(&str, Option<u64>)] = &[
+    ("0", Some(0)),
+    ("10", Some(10)),
+    ("18446744073709551615", Some(u64::MAX)),
+    ("18446744073709551616", None),
+    ("00", None),
+    ("010", None),
+    ("+1", None),
+    ("", None),
+];
+
+fn reads_plain(rt: &impl Abort, word: &str, value: Option<u64>) {
+    assert_eq!(rt; plain_number(word.as_bytes()), value, "at {word}");
+}
+
+#[test]
+fn spelled_and_plain_numbers(rt: HostRuntime) {
+    for (word, answer) in SPELLED {
+        assert!(rt; is_whole(word.as_bytes()) == *answer, "at {word}");
     }
-    let plain = [
-        ("0", Some(0)),
-        ("10", Some(10)),
-        ("18446744073709551615", Some(u64::MAX)),
-        ("18446744073709551616", None),
-        ("00", None),
-        ("010", None),
-        ("+1", None),
-        ("", None),
-    ];
-    for (word, value) in plain {
-        assert_eq!(rt; plain_number(word.as_bytes()), value, "at {word}");
+    for (word, value) in PLAIN {
+        reads_plain(&rt, word, *value);
     }
 }
 

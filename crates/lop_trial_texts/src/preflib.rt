@@ -1,5 +1,5 @@
 // Texts that are read, and texts that are refused.
-use crate::{PrefRefusal, read_preflib};
+use lop_preflib::{PrefRefusal, read_preflib};
 use std::alloc::Global;
 use std::process::Abort;
 use std::test::Fail;

@@ -1,5 +1,5 @@
-use super::*;
 use lop_cuts::{CutList, Point};
+use lop_fence::violated_fences;
 use std::test::Fail;
 
 #[test]

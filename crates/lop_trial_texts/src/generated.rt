@@ -1,5 +1,5 @@
 // Matrices that another program of the same rule gives, and texts that are read back.
-use crate::{generate, lolib_text};
+use lop_gen::{generate, lolib_text};
 use lop_lolib::read_lolib;
 use lop_model::Weights;
 use std::alloc::{AllocError, Global};

@@ -1,7 +1,7 @@
-use crate::{LpRoom, LpStop, RowReply};
 use lop_cuts::Cut;
 use lop_fix::Fixings;
 use lop_model::Weights;
+use lop_simplex::{LpRoom, LpStop, RowReply};
 use std::test::Fail;
 
 // Three sectors whose greater entries go round: without the dicycle all three arcs are taken, with it two of them.

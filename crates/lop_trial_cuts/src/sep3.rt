@@ -1,5 +1,5 @@
-use super::*;
 use lop_cuts::{CutKind, CutList, Point};
+use lop_sep3::{Found, violated_dicycles};
 use std::test::Fail;
 
 #[test]

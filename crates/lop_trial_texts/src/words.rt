@@ -1,6 +1,6 @@
 // Words that are commands, and words that are none.
-use crate::{Command, Format, WordsFault, read_words};
 use clap::{Arg, ArgMatches};
+use lop_words::{Command, Format, WordsFault, read_words};
 use std::alloc::{AllocError, Global};
 use std::process::Abort;
 use std::test::Fail;

@@ -1,5 +1,5 @@
-use super::*;
 use lop_cuts::{CutList, Point};
+use lop_mobius::{RingRoom, violated_ladders};
 use std::test::Fail;
 
 /// Five 3-cycles in a ring: 0 1 2, 1 2 3, 2 3 4, 3 4 0 and 4 0 1. Neighbours share an arc between objects that follow

@@ -1,5 +1,5 @@
-use crate::lanes::or_into;
-use crate::{Decision, Fixings, PathFault};
+use lop_fix::lanes::or_into;
+use lop_fix::{Decision, Fixings, PathFault};
 use lop_model::Pair;
 use std::alloc::{AllocError, Global};
 use std::test::Fail;

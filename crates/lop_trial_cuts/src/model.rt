@@ -1,4 +1,4 @@
-use crate::{Order, OrderFault, Pair, Weights, WeightsFault};
+use lop_model::{Order, OrderFault, Pair, Weights, WeightsFault};
 use std::alloc::Global;
 use std::test::Fail;
 

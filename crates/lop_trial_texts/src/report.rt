@@ -2,11 +2,11 @@
 ghost use Rattle.std.specs.Prelude.{◌≡◌, ◌≤◌, ◌^◌, unsigned_abs, IfSome};
 ghost use Rattle.std.specs.Option.{option_copied};
 
-use crate::{Answer, print_accepted, print_answer, print_generated, print_value};
 use lop_desk::{MemoryDesk, TextRoom};
 use lop_model::{Order, Weights};
 use lop_preflib::{Profile, read_preflib};
 use lop_profile::pair_weights;
+use lop_report::{Answer, print_accepted, print_answer, print_generated, print_value};
 use std::alloc::Global;
 use std::process::Abort;
 use std::test::Fail;

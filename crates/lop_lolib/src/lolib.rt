@@ -68,7 +68,7 @@ fn read_size(words: &mut Words<'_>, position: usize) -> Result<u16, LolibRefusal
         return Err(LolibRefusal::Empty);
     };
     match number_of(word) {
-        Some(n) if n >= 1 && n <= i64::from(MAX_OBJECTS) => Ok(n as u16),
+        Some(n) if n >= 1 && n <= MAX_OBJECTS as i64 => Ok(n as u16),
         Some(n) => Err(LolibRefusal::SizeRange(n)),
         None => Err(LolibRefusal::BadSize(position as u64)),
     }

@@ -85,7 +85,7 @@ fn size_after(size: Option<u16>, word: &[u8], number: u64) -> Result<Option<u16>
     if size.is_some() {
         return Ok(size);
     }
-    match number_up_to(word, u64::from(MAX_ALTERNATIVES)) {
+    match number_up_to(word, MAX_ALTERNATIVES) {
         Some(n) => Ok(Some(n as u16)),
         None => Err(PrefRefusal::SizeRange(number)),
     }

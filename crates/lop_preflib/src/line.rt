@@ -63,6 +63,6 @@ fn named(text: &[u8]) -> Option<(u16, &[u8])>
 {
     let naming = behind(NAME_LABEL, text)?;
     let (word, name) = cut(b':', naming)?;
-    let number = number_up_to(word, u64::from(MAX_ALTERNATIVES))?;
+    let number = number_up_to(word, MAX_ALTERNATIVES)?;
     Some((number as u16, trim(name)))
 }

@@ -7,7 +7,7 @@ use crate::orders::Orders;
 use std::marker::Model;
 
 /// The most alternatives.
-pub const MAX_ALTERNATIVES: u16 = 512;
+pub const MAX_ALTERNATIVES: u64 = 512;
 
 /// The most voters.
 pub const MAX_VOTERS: u64 = 1_000_000_000_000_000_000;

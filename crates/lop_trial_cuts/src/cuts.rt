@@ -77,6 +77,10 @@ fn objects_are_tested_place_by_place(rt: HostRuntime) {
     for ([a, b, c], fault) in refused {
         assert_eq!(rt; Cut::dicycle(a, b, c, 3).err(), Some(fault), "{a} {b} {c}");
     }
+}
+
+#[test]
+fn a_fence_runs_over_u_and_then_w(rt: HostRuntime) {
     let fences = [
         ([0, 1, 2], [3, 4, 6], CutFault::Range(5)),
         ([0, 1, 2], [3, 1, 6], CutFault::Repeated(4)),
@@ -85,6 +89,10 @@ fn objects_are_tested_place_by_place(rt: HostRuntime) {
     for (u, w, fault) in fences {
         assert_eq!(rt; Cut::fence(&u, &w, 6).err(), Some(fault), "{u:?} {w:?}");
     }
+}
+
+#[test]
+fn a_fence_has_three_to_eight_posts(rt: HostRuntime) {
     let nine = [0, 1, 2, 3, 4, 5, 6, 7, 8];
     for (u, w) in [(3, 4), (2, 2), (9, 9)] {
         assert_eq!(rt;
@@ -106,7 +114,11 @@ fn cycles_are_tested_in_turn(rt: HostRuntime) {
         let cycles = [wide, wide, cycle];
         assert_eq!(rt; Cut::ladder(&cycles, 6).err(), Some(fault), "{cycle:?}");
     }
-    let many = [wide; 10];
+}
+
+#[test]
+fn a_ladder_has_an_odd_number_of_cycles(rt: HostRuntime) {
+    let many = [Cycle::Four([0, 1, 2, 3]); 10];
     for (count, fault) in [
         (2, CutFault::CountRange),
         (4, CutFault::CountEven),

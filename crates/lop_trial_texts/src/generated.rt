@@ -1,8 +1,11 @@
 // Matrices that another program of the same rule gives, and texts that are read back.
+ghost use Rattle.std.specs.Prelude.{◌≤◌};
+
 use lop_gen::{generate, lolib_text};
 use lop_lolib::read_lolib;
 use lop_model::Weights;
 use std::alloc::{AllocError, Global};
+use std::process::Abort;
 use std::test::Fail;
 
 // The entries, row by row.
@@ -16,23 +19,32 @@ fn entries_of(alloc: Global, weights: &Weights) -> Result<Vec<i64>, AllocError> 
     Ok(entries)
 }
 
+fn gives(
+    rt: &impl Abort,
+    alloc: Global,
+    seed: u64,
+    n: u16,
+    entries: &[i64],
+) -> Result<(), AllocError>
+    requires positive { 1 ≤ n }
+    requires within_limit { n ≤ 512 }
+{
+    let found = entries_of(alloc, &generate(alloc, seed, n)?)?;
+    assert_eq!(rt; found.as_slice(), entries);
+    Ok(())
+}
+
 #[test]
 fn matrices(rt: HostRuntime) -> Result<(), Fail> {
     let alloc = rt.alloc();
-    let found = entries_of(alloc, &generate(alloc, 7, 3)?)?;
-    assert_eq!(rt;
-        found.as_slice(),
-        [0, 337, 806, 285, 0, 804, 60, 93, 0].as_slice()
-    );
-    let found = entries_of(alloc, &generate(alloc, 0, 2)?)?;
-    assert_eq!(rt; found.as_slice(), [0, 107, 527, 0].as_slice());
-    let found = entries_of(alloc, &generate(alloc, u64::MAX, 4)?)?;
-    let expected: [i64; 16] = [
+    let of_three: [i64; 9] = [0, 337, 806, 285, 0, 804, 60, 93, 0];
+    gives(&rt, alloc, 7, 3, &of_three)?;
+    gives(&rt, alloc, 0, 2, &[0, 107, 527, 0])?;
+    let of_four: [i64; 16] = [
         0, 318, 822, 484, 333, 0, 82, 896, 589, 581, 0, 994, 640, 455, 17, 0,
     ];
-    assert_eq!(rt; found.as_slice(), expected.as_slice());
-    let found = entries_of(alloc, &generate(alloc, 7, 1)?)?;
-    assert_eq!(rt; found.as_slice(), [0].as_slice());
+    gives(&rt, alloc, u64::MAX, 4, &of_four)?;
+    gives(&rt, alloc, 7, 1, &[0])?;
     Ok(())
 }
 

@@ -34,11 +34,6 @@ fn reads_whole(
     Ok(())
 }
 
-// The same, without a title and tail words.
-fn reads(rt: &impl Abort, alloc: Global, text: &str, entries: &[i64]) -> Result<(), Fail> {
-    reads_whole(rt, alloc, text, entries, "", 0)
-}
-
 fn refuses(rt: &impl Abort, alloc: Global, text: &str, expected: LolibRefusal) {
     match read_lolib(alloc, text.as_bytes()) {
         Ok(_) => assert!(rt; false, "read {text:?}"),
@@ -46,80 +41,92 @@ fn refuses(rt: &impl Abort, alloc: Global, text: &str, expected: LolibRefusal) {
     }
 }
 
+const WIDE: i64 = 1_000_000_000_000_000_000;
+
+const SECTORS: &[i64] = &[0, 5, 1, 2, 0, 4, 3, 1, 0];
+
+const PAIR: &[i64] = &[0, 1, 2, 0];
+
+/// Texts without a title and tail words, and their entries.
+const PLAIN: &[(&str, &[i64])] = &[
+    ("3\n0 5 1\n2 0 4\n3 1 0\n", SECTORS),
+    ("3 0 5 1 2 0 4 3 1 0", SECTORS),
+    ("\n\n3\n\n0 5\n1 2\n0 4\n3 1\n0\n\n", SECTORS),
+    ("2\r\n0 1\r\n2 0\r\n", PAIR),
+    ("\t2\t0\t1\r2 \t 0", PAIR),
+    ("+002\n000 +1\n0002 -00\n", PAIR),
+    ("1\n-1000000000000000000", &[-WIDE]),
+    (
+        "2\n0 500000000000000000 -500000000000000000 0",
+        &[0, WIDE / 2, -WIDE / 2, 0],
+    ),
+];
+
 #[test]
 fn texts_read(rt: HostRuntime) -> Result<(), Fail> {
-    let alloc = rt.alloc();
-    let sectors: &[i64] = &[0, 5, 1, 2, 0, 4, 3, 1, 0];
-    let pair: &[i64] = &[0, 1, 2, 0];
-    reads(&rt, alloc, "3\n0 5 1\n2 0 4\n3 1 0\n", sectors)?;
-    reads(&rt, alloc, "3 0 5 1 2 0 4 3 1 0", sectors)?;
-    reads(&rt, alloc, "\n\n3\n\n0 5\n1 2\n0 4\n3 1\n0\n\n", sectors)?;
-    reads(&rt, alloc, "2\r\n0 1\r\n2 0\r\n", pair)?;
-    reads(&rt, alloc, "\t2\t0\t1\r2 \t 0", pair)?;
-    reads(&rt, alloc, "+002\n000 +1\n0002 -00\n", pair)?;
-    let wide = 1_000_000_000_000_000_000;
-    reads(&rt, alloc, "1\n-1000000000000000000", &[-wide])?;
-    let text = "2\n0 500000000000000000 -500000000000000000 0";
-    reads(&rt, alloc, text, &[0, wide / 2, -wide / 2, 0])?;
+    for (text, entries) in PLAIN {
+        reads_whole(&rt, rt.alloc(), text, entries, "", 0)?;
+    }
     Ok(())
 }
+
+/// Texts, their entries and titles, and how many words follow.
+const TITLED: &[(&str, &[i64], &str, u64)] = &[
+    (
+        "Belgium 1975\n3\n0 5 1\n2 0 4\n3 1 0\n",
+        SECTORS,
+        "Belgium 1975",
+        0,
+    ),
+    ("3\n0 5 1\n2 0 4\n3 1 0\nx y\n", SECTORS, "", 2),
+    ("1\n0 x", &[0], "", 1),
+    ("\n \t x  9\t \r\n1 0 2\n3 \x0c", &[0], "x  9", 3),
+    ("1.5\n1\n0", &[0], "1.5", 0),
+    ("1 -\n1\n0", &[0], "1 -", 0),
+    ("\u{e9}\x00\n1\n0", &[0], "\u{e9}\x00", 0),
+];
 
 #[test]
 fn titles_and_tails_read(rt: HostRuntime) -> Result<(), Fail> {
-    let alloc = rt.alloc();
-    let sectors: &[i64] = &[0, 5, 1, 2, 0, 4, 3, 1, 0];
-    let titled = "Belgium 1975\n3\n0 5 1\n2 0 4\n3 1 0\n";
-    reads_whole(&rt, alloc, titled, sectors, "Belgium 1975", 0)?;
-    let tailed = "3\n0 5 1\n2 0 4\n3 1 0\nx y\n";
-    reads_whole(&rt, alloc, tailed, sectors, "", 2)?;
-    reads_whole(&rt, alloc, "1\n0 x", &[0], "", 1)?;
-    reads_whole(
-        &rt,
-        alloc,
-        "\n \t x  9\t \r\n1 0 2\n3 \x0c",
-        &[0],
-        "x  9",
-        3,
-    )?;
-    reads_whole(&rt, alloc, "1.5\n1\n0", &[0], "1.5", 0)?;
-    reads_whole(&rt, alloc, "1 -\n1\n0", &[0], "1 -", 0)?;
-    reads_whole(&rt, alloc, "\u{e9}\x00\n1\n0", &[0], "\u{e9}\x00", 0)?;
+    for (text, entries, title, tail_words) in TITLED {
+        reads_whole(&rt, rt.alloc(), text, entries, title, *tail_words)?;
+    }
     Ok(())
 }
 
+const REFUSED: &[(&str, LolibRefusal)] = &[
+    ("", Empty),
+    (" \r\n\t\n", Empty),
+    ("2 0 1 1 0 x", Empty),
+    ("Belgium\n \n", Empty),
+    ("1000000000000000001\n0\n", BadSize(0)),
+    ("Belgium 1975\n\n Table\n1\n0\n", BadSize(15)),
+    ("513\n", SizeRange(513)),
+    ("0\n", SizeRange(0)),
+    ("+\n-1\n", SizeRange(-1)),
+    ("1\n--1\n", BadEntry(0)),
+    ("2\n0 1 1- 1000000000000000001\n", BadEntry(2)),
+    ("2\n0 1000000000000000001 x\n", TooWide(1)),
+    (
+        "1\n-100000000000000000000000000000000000000000\n",
+        TooWide(0),
+    ),
+    ("2\n0 1\n1\n", Short(3)),
+    ("512", Short(0)),
+    (
+        "2\n0 500000000000000001\n500000000000000000 0",
+        TooHeavy(1_000_000_000_000_000_001),
+    ),
+    (
+        "2\n0 -500000000000000001\n500000000000000000 0 x",
+        TooHeavy(1_000_000_000_000_000_001),
+    ),
+];
+
 #[test]
 fn texts_refused(rt: HostRuntime) {
-    let heavy = 1_000_000_000_000_000_001;
-    let texts = [
-        ("", Empty),
-        (" \r\n\t\n", Empty),
-        ("2 0 1 1 0 x", Empty),
-        ("Belgium\n \n", Empty),
-        ("1000000000000000001\n0\n", BadSize(0)),
-        ("Belgium 1975\n\n Table\n1\n0\n", BadSize(15)),
-        ("513\n", SizeRange(513)),
-        ("0\n", SizeRange(0)),
-        ("+\n-1\n", SizeRange(-1)),
-        ("1\n--1\n", BadEntry(0)),
-        ("2\n0 1 1- 1000000000000000001\n", BadEntry(2)),
-        ("2\n0 1000000000000000001 x\n", TooWide(1)),
-        (
-            "1\n-100000000000000000000000000000000000000000\n",
-            TooWide(0),
-        ),
-        ("2\n0 1\n1\n", Short(3)),
-        ("512", Short(0)),
-        (
-            "2\n0 500000000000000001\n500000000000000000 0",
-            TooHeavy(heavy),
-        ),
-        (
-            "2\n0 -500000000000000001\n500000000000000000 0 x",
-            TooHeavy(heavy),
-        ),
-    ];
-    for (text, refusal) in texts {
-        refuses(&rt, rt.alloc(), text, refusal);
+    for (text, refusal) in REFUSED {
+        refuses(&rt, rt.alloc(), text, *refusal);
     }
 }
 
@@ -146,22 +153,22 @@ fn refuses_order(rt: &impl Abort, alloc: Global, text: &str, expected: OrderRefu
     }
 }
 
+const NO_ORDERS: &[(&str, OrderRefusal)] = &[
+    ("9 x\n", BadWord(1)),
+    ("1 2 3 1000000000000000001", BadWord(3)),
+    ("", Length(0)),
+    ("1 1 9 1\n", Length(4)),
+    ("1 0 1\n", OutOfRange(1)),
+    ("65536 65536 -1\n", OutOfRange(0)),
+    ("1 2 2\n", Repeated(2)),
+    ("2 2 9\n", Repeated(1)),
+];
+
 #[test]
 fn orders_read(rt: HostRuntime) -> Result<(), Fail> {
-    let alloc = rt.alloc();
-    reads_order(&rt, alloc, "\r\n+2\t03\n1", 3, &[1, 2, 0])?;
-    let texts = [
-        ("9 x\n", BadWord(1)),
-        ("1 2 3 1000000000000000001", BadWord(3)),
-        ("", Length(0)),
-        ("1 1 9 1\n", Length(4)),
-        ("1 0 1\n", OutOfRange(1)),
-        ("65536 65536 -1\n", OutOfRange(0)),
-        ("1 2 2\n", Repeated(2)),
-        ("2 2 9\n", Repeated(1)),
-    ];
-    for (text, refusal) in texts {
-        refuses_order(&rt, alloc, text, refusal);
+    reads_order(&rt, rt.alloc(), "\r\n+2\t03\n1", 3, &[1, 2, 0])?;
+    for (text, refusal) in NO_ORDERS {
+        refuses_order(&rt, rt.alloc(), text, *refusal);
     }
     Ok(())
 }

@@ -74,47 +74,48 @@ fn is_refused(rt: &impl Abort, alloc: Global, text: &str, refusal: PrefRefusal) 
     );
 }
 
+const REFUSED: &[(&str, PrefRefusal)] = &[
+    ("", PrefRefusal::NoSize(0)),
+    ("#\n\n\r", PrefRefusal::NoSize(3)),
+    (
+        "#\n1: 1\n# NUMBER ALTERNATIVES: 3\n",
+        PrefRefusal::NoSize(2),
+    ),
+    ("# NUMBER ALTERNATIVES: 513\n1\n", PrefRefusal::SizeRange(1)),
+    ("# NUMBER ALTERNATIVES: 1\n1 1\n", PrefRefusal::BadLine(2)),
+    ("# NUMBER ALTERNATIVES: 1\n0: {\n", PrefRefusal::BadCount(2)),
+    (
+        "# NUMBER ALTERNATIVES: 3\n1: 1,{2,3}\n",
+        PrefRefusal::Ties(2),
+    ),
+    (
+        "# NUMBER ALTERNATIVES: 3\n1: 1,4,1\n",
+        PrefRefusal::BadAlternative(2),
+    ),
+    (
+        "# NUMBER ALTERNATIVES: 3\n4: 1,2,3\n3: 2,3,1\n2: 3,1,1\n",
+        PrefRefusal::Repeated(4),
+    ),
+    (
+        "# NUMBER ALTERNATIVES: 1\n1: 1\n1000000000000000000: 1\n",
+        PrefRefusal::TooMany(3),
+    ),
+    ("# NUMBER ALTERNATIVES: 1\n", PrefRefusal::NoOrders),
+    // Words that are no digits, and numbers that a machine's word doesn't hold.
+    ("# NUMBER ALTERNATIVES: +3\n", PrefRefusal::SizeRange(1)),
+    (
+        "# NUMBER ALTERNATIVES: 1\n18446744073709551617: 1\n",
+        PrefRefusal::BadCount(2),
+    ),
+    (
+        "# NUMBER ALTERNATIVES: 3\n1: 1,,2\n",
+        PrefRefusal::BadAlternative(2),
+    ),
+];
+
 #[test]
 fn texts_refused(rt: HostRuntime) {
-    let texts = [
-        ("", PrefRefusal::NoSize(0)),
-        ("#\n\n\r", PrefRefusal::NoSize(3)),
-        (
-            "#\n1: 1\n# NUMBER ALTERNATIVES: 3\n",
-            PrefRefusal::NoSize(2),
-        ),
-        ("# NUMBER ALTERNATIVES: 513\n1\n", PrefRefusal::SizeRange(1)),
-        ("# NUMBER ALTERNATIVES: 1\n1 1\n", PrefRefusal::BadLine(2)),
-        ("# NUMBER ALTERNATIVES: 1\n0: {\n", PrefRefusal::BadCount(2)),
-        (
-            "# NUMBER ALTERNATIVES: 3\n1: 1,{2,3}\n",
-            PrefRefusal::Ties(2),
-        ),
-        (
-            "# NUMBER ALTERNATIVES: 3\n1: 1,4,1\n",
-            PrefRefusal::BadAlternative(2),
-        ),
-        (
-            "# NUMBER ALTERNATIVES: 3\n4: 1,2,3\n3: 2,3,1\n2: 3,1,1\n",
-            PrefRefusal::Repeated(4),
-        ),
-        (
-            "# NUMBER ALTERNATIVES: 1\n1: 1\n1000000000000000000: 1\n",
-            PrefRefusal::TooMany(3),
-        ),
-        ("# NUMBER ALTERNATIVES: 1\n", PrefRefusal::NoOrders),
-        // Words that are no digits, and numbers that a machine's word doesn't hold.
-        ("# NUMBER ALTERNATIVES: +3\n", PrefRefusal::SizeRange(1)),
-        (
-            "# NUMBER ALTERNATIVES: 1\n18446744073709551617: 1\n",
-            PrefRefusal::BadCount(2),
-        ),
-        (
-            "# NUMBER ALTERNATIVES: 3\n1: 1,,2\n",
-            PrefRefusal::BadAlternative(2),
-        ),
-    ];
-    for (text, refusal) in texts {
-        is_refused(&rt, rt.alloc(), text, refusal);
+    for (text, refusal) in REFUSED {
+        is_refused(&rt, rt.alloc(), text, *refusal);
     }
 }

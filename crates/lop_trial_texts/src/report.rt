@@ -131,17 +131,27 @@ fn weighs(
     Ok(())
 }
 
-// The sectors in the order 3, 2, 1; half of the greatest total; lunch.
+// The sectors in the order 3, 2, 1.
 #[test]
-fn values(rt: HostRuntime) -> Result<(), Fail> {
+fn the_sectors_backwards(rt: HostRuntime) -> Result<(), Fail> {
     let alloc = rt.alloc();
     let text = "objects 3\nvalue 6\ntotal 16\nlinearity 0.3750\n";
-    weighs(&rt, alloc, 6, &sectors(alloc)?, None, text)?;
+    weighs(&rt, alloc, 6, &sectors(alloc)?, None, text)
+}
+
+#[test]
+fn half_of_the_greatest_total(rt: HostRuntime) -> Result<(), Fail> {
+    let alloc = rt.alloc();
     let half = 500_000_000_000_000_000;
     let entries: [i64; 4] = [0, half, half, 0];
     let weights = Weights::new(2, entries.to_vec(alloc)?)?;
     let text = "objects 2\nvalue 500000000000000000\ntotal 1000000000000000000\nlinearity 0.5000\n";
-    weighs(&rt, alloc, 500_000_000_000_000_000, &weights, None, text)?;
+    weighs(&rt, alloc, 500_000_000_000_000_000, &weights, None, text)
+}
+
+#[test]
+fn lunch_valued(rt: HostRuntime) -> Result<(), Fail> {
+    let alloc = rt.alloc();
     let profile = read_preflib(alloc, LUNCH.as_bytes())?;
     let weights = pair_weights(alloc, &profile)?;
     let text = "objects 3\nvalue 17\ntotal 27\nlinearity 0.6296\nvoters 9\ndisagreements 10\n";
@@ -149,7 +159,7 @@ fn values(rt: HostRuntime) -> Result<(), Fail> {
 }
 
 #[test]
-fn generated_and_accepted(rt: HostRuntime) -> Result<(), Fail> {
+fn generated(rt: HostRuntime) -> Result<(), Fail> {
     let alloc = rt.alloc();
     let mut room = TextRoom::new(alloc)?;
     let answer = Answer {
@@ -157,15 +167,22 @@ fn generated_and_accepted(rt: HostRuntime) -> Result<(), Fail> {
         bound: 10,
         nodes: 1,
     };
-    let mut generated = desk(alloc)?;
-    print_generated(7, &answer, &sectors(alloc)?, &mut generated, &mut room)?;
+    let mut desk = desk(alloc)?;
+    print_generated(7, &answer, &sectors(alloc)?, &mut desk, &mut room)?;
     let text = "seed 7\nobjects 3\nvalue 9\nbound 10\nstatus spent\nnodes 1\ntotal 16\n";
-    assert_eq!(rt; generated.printed(), text.as_bytes());
-    let mut accepted = desk(alloc)?;
-    print_accepted(4, 4, &mut accepted, &mut room)?;
-    print_accepted(4, 6, &mut accepted, &mut room)?;
+    assert_eq!(rt; desk.printed(), text.as_bytes());
+    Ok(())
+}
+
+#[test]
+fn accepted(rt: HostRuntime) -> Result<(), Fail> {
+    let alloc = rt.alloc();
+    let mut room = TextRoom::new(alloc)?;
+    let mut desk = desk(alloc)?;
+    print_accepted(4, 4, &mut desk, &mut room)?;
+    print_accepted(4, 6, &mut desk, &mut room)?;
     let text =
         "accepted\nvalue 4\nbound 4\nstatus optimal\naccepted\nvalue 4\nbound 6\nstatus bounded\n";
-    assert_eq!(rt; accepted.printed(), text.as_bytes());
+    assert_eq!(rt; desk.printed(), text.as_bytes());
     Ok(())
 }

@@ -21,10 +21,10 @@ returns-in_err-read_items-clause-refusal c =
     let p = err_from_is_err_and c.from_residual.result c.from_residual.ensures.1 in
     rw (p.1, p.2) (IsStop-items (items_refusal c.args.n c.args.number (items_in c.in-Some.list.now)) (order_refusal c.args.n c.args.voters c.args.number c.args.line.now) c.in_err-read_items.field-0.0 (refused-items c.args.n c.args.voters c.args.number c.args.line.now c.trim-2.result.now c.in-Some.list.now cut c.in-Some-number_up_to.ensures.0 (sym c.has_brace.ensures ∙ c.if-has_brace.false)) c.in_err-read_items.ensures.refusal)
 
-pub returns-then-voters-count-gt-MOST-clause-refusal : goal.returns-then-voters-count-gt-MOST-clause-refusal
-returns-then-voters-count-gt-MOST-clause-refusal c =
+pub returns-then-voters-count-gt-MAX_VOTERS-clause-refusal : goal.returns-then-voters-count-gt-MAX_VOTERS-clause-refusal
+returns-then-voters-count-gt-MAX_VOTERS-clause-refusal c =
     let cut : IsCut c.args.line.now c.trim-2.result.now c.in-Some.list.now = IsCut-parts c.args.line.now c.trim.result.now c.in-Some.front.now c.in-Some.list.now c.trim-2.result.now c.trim.ensures c.in-Some.ensures c.trim-2.ensures in
-    refused-votes c.args.n c.args.voters c.args.number c.args.line.now c.trim-2.result.now c.in-Some.list.now cut c.in-Some-number_up_to.ensures.0 (sym c.has_brace.ensures ∙ c.if-has_brace.false) c.in-Some-number_up_to.count c.in-Some-number_up_to.ensures.1 c.in_ok-read_items.ensures.good c.if-voters-count-gt-MOST.true
+    refused-votes c.args.n c.args.voters c.args.number c.args.line.now c.trim-2.result.now c.in-Some.list.now cut c.in-Some-number_up_to.ensures.0 (sym c.has_brace.ensures ∙ c.if-has_brace.false) c.in-Some-number_up_to.count c.in-Some-number_up_to.ensures.1 c.in_ok-read_items.ensures.good c.if-voters-count-gt-MAX_VOTERS.true
 
 pub returns-clause-order : goal.returns-clause-order
 returns-clause-order c =

@@ -1,7 +1,10 @@
 pub mod LaneLemmas
 pub mod ChargeLemmas
+pub mod ClearLemmas
 pub mod ResidualLemmas
 pub mod PackingLemmas
+pub mod MarginLemmas
+pub mod RowSums
 pub mod SpentLemmas
 pub mod StillLemmas
 pub mod PackingValue

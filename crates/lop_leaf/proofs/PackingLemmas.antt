@@ -18,8 +18,7 @@ use Rattle.lop_cuts.specs.Lagrangian.{Term, reduced_entry}
 use Rattle.lop_fix.specs.PartialOrder.{FixedPairs, IsPartialOrder}
 use Rattle.lop_leaf.specs.Record.{ScaledTerms}
 use Rattle.lop_leaf.specs.Packing.{positive_part, residual, lesser, residual_number, cycle_residual, IsExhausted, AreThree, dicycle, in_turn}
-use Rattle.lop_leaf.specs.Table.{IsResidualWord, lowered, HasResiduals, IsSpentCycle, IsSpent, IsPacking}
-use Rattle.lop_model.specs.Cells.{cell}
+use Rattle.lop_leaf.specs.Table.{IsResidualWord, lowered, slack, HasResiduals, IsSpentCycle, IsSpent, IsPacking}
 use Rattle.lop_model.proofs.CellLemmas.{read-set}
 use Rattle.lop_leaf.proofs.ChargeLemmas.{entries_within}
 use Rattle.lop_leaf.proofs.ResidualLemmas.{residual_of, word_step, least_word, limited, lowered-zero, lowered-limited, arc_cases, one_way, reduced-dicycle}
@@ -59,22 +58,6 @@ free_word C G a b x is l m differ f g e =
 
 -- ---- lowering the residuals of a cycle
 
-cell_where : (t : List ℕ) (n a b x y : ℕ) → (eqb x a && eqb y b) ≡ true → cell t n a b ≡ cell t n x y
-cell_where t n a b x y e = let at = both_equal x a y b e in ap (λ k. cell t n k b) (sym at.0) ∙ ap (λ k. cell t n x k) (sym at.1)
-  where
-    both_equal : (x a y b : ℕ) → (eqb x a && eqb y b) ≡ true → (x ≡ a) × (y ≡ b)
-    both_equal x a y b e = grind (arith, nat_tests)
-
-cond_change : (p : Bool) (v w o : ℕ) → (p ≡ true → v ≡ w) → cond p v o ≡ cond p w o
-cond_change true v w o h = h refl
-cond_change false v w o h = refl
-
-pub lowered_at : (t : List ℕ) (n a b x y m v : ℕ) → length t ≡ n * n → a < n → b < n → y < n → v ≡ lowered (cell t n a b) m
-    → cell (set t (a * n + b) v) n x y ≡ cond (eqb x a && eqb y b) (lowered (cell t n x y) m) (cell t n x y)
-lowered_at t n a b x y m v whole l k h e =
-    read-set t n a b x y v 0 whole l k h
-    ∙ cond_change (eqb x a && eqb y b) v (lowered (cell t n x y) m) (cell t n x y) (λ f. e ∙ ap (λ w. lowered w m) (cell_where t n a b x y f))
-
 three_tests : (p q s p' q' s' : Bool) (m v v1 v2 v3 : ℕ) → p ≡ p' → q ≡ q' → s ≡ s' → (p ≡ true → q ≡ true → ⊥) → (q ≡ true → s ≡ true → ⊥) → (p ≡ true → s ≡ true → ⊥)
     → v1 ≡ cond p (lowered v m) v → v2 ≡ cond q (lowered v1 m) v1 → v3 ≡ cond s (lowered v2 m) v2 → v3 ≡ cond (p' || (q' || (s' || false))) (lowered v m) v
 three_tests true true s p' q' s' m v v1 v2 v3 ep eq es pq qs ps e f g = absurd (pq refl refl)
@@ -100,39 +83,39 @@ lowered_cycle n a b c x y m v v1 v2 v3 three e f g =
 -- ---- a step
 
 -- the least word of a cycle is its least residual
-pub cycle_word : (C : Matrix) (G : List Pair) (terms : List Term) (t : List ℕ) (a b c : ℕ) → IsPartialOrder (record { size = C.size; pairs = G }) → AreThree C.size a b c → HasResiduals C G terms t
-    → (cycle_residual G (reduced_entry C 1 terms) a b c ≡ min (cell t C.size a b) (min (cell t C.size b c) (cell t C.size c a))) × (min (cell t C.size a b) (min (cell t C.size b c) (cell t C.size c a)) < 2 ^ 63)
+pub cycle_word : (C : Matrix) (G : List Pair) (terms : List Term) (t : List ℤ) (a b c : ℕ) → IsPartialOrder (record { size = C.size; pairs = G }) → AreThree C.size a b c → HasResiduals C G terms t
+    → (cycle_residual G (reduced_entry C 1 terms) a b c ≡ min (slack t C.size a b) (min (slack t C.size b c) (slack t C.size c a))) × (min (slack t C.size a b) (min (slack t C.size b c) (slack t C.size c a)) < 2 ^ 62)
 cycle_word C G terms t a b c order three has =
     let r : ℕ → ℕ → ℤ = reduced_entry C 1 terms in
-    least_word (residual G r a b) (residual G r b c) (residual G r c a) (cell t C.size a b) (cell t C.size b c) (cell t C.size c a)
+    least_word (residual G r a b) (residual G r b c) (residual G r c a) (slack t C.size a b) (slack t C.size b c) (slack t C.size c a)
     (has.each a b three.first three.second three.first_second) (has.each b c three.second three.third three.second_third) (has.each c a three.third three.first (λ e. three.first_third (sym e)))
     (limited C.size G r a b c order)
 
 -- what is known of the number that the code finds as the least word
-pub record LeastWord (C : Matrix) (G : List Pair) (terms : List Term) (t : List ℕ) (a b c m : ℕ) : Type 0 where
+pub record LeastWord (C : Matrix) (G : List Pair) (terms : List Term) (t : List ℤ) (a b c m : ℕ) : Type 0 where
   pub residual : cycle_residual G (reduced_entry C 1 terms) a b c ≡ m
-  pub limit : m < 2 ^ 63
-  pub least : m ≡ min (cell t C.size a b) (min (cell t C.size b c) (cell t C.size c a))
+  pub limit : m < 2 ^ 62
+  pub least : m ≡ min (slack t C.size a b) (min (slack t C.size b c) (slack t C.size c a))
 
-pub least_is : (C : Matrix) (f : FixedPairs) (terms : List Term) (t : List ℕ) (a b c n m : ℕ) → IsPartialOrder f → f.size ≡ C.size → AreThree C.size a b c → HasResiduals C f.pairs terms t → n ≡ C.size → m ≡ min (cell t n a b) (min (cell t n b c) (cell t n c a)) → LeastWord C f.pairs terms t a b c m
+pub least_is : (C : Matrix) (f : FixedPairs) (terms : List Term) (t : List ℤ) (a b c n m : ℕ) → IsPartialOrder f → f.size ≡ C.size → AreThree C.size a b c → HasResiduals C f.pairs terms t → n ≡ C.size → m ≡ min (slack t n a b) (min (slack t n b c) (slack t n c a)) → LeastWord C f.pairs terms t a b c m
 least_is C f terms t a b c n m is same three has size e =
     let order : IsPartialOrder (record { size = C.size; pairs = f.pairs }) = subst (λ (k : ℕ). IsPartialOrder (record { size = k; pairs = f.pairs })) same is in
     let word = cycle_word C f.pairs terms t a b c order three has in
-    let least : m ≡ min (cell t C.size a b) (min (cell t C.size b c) (cell t C.size c a)) = e ∙ ap (λ k. min (cell t k a b) (min (cell t k b c) (cell t k c a))) size in
-    record { residual = word.0 ∙ sym least; limit = subst (λ k. k < 2 ^ 63) (sym least) word.1; least = least }
+    let least : m ≡ min (slack t C.size a b) (min (slack t C.size b c) (slack t C.size c a)) = e ∙ ap (λ k. min (slack t k a b) (min (slack t k b c) (slack t k c a))) size in
+    record { residual = word.0 ∙ sym least; limit = subst (λ k. k < 2 ^ 62) (sym least) word.1; least = least }
 
-arc_enough : (n a b c x y m : ℕ) (t : List ℕ) → m ≤ cell t n a b → m ≤ cell t n b c → m ≤ cell t n c a → has_pair (cycle_arcs (a ∷ b ∷ c ∷ [])) x y ≡ true → m ≤ cell t n x y
+arc_enough : (n a b c x y m : ℕ) (t : List ℤ) → m ≤ slack t n a b → m ≤ slack t n b c → m ≤ slack t n c a → has_pair (cycle_arcs (a ∷ b ∷ c ∷ [])) x y ≡ true → m ≤ slack t n x y
 arc_enough n a b c x y m t h k l e = elim (arc_cases a b c x y e) [
-  | inl p ↦ subst (λ v. m ≤ v) (ap (λ z. cell t n z b) p.0 ∙ ap (λ z. cell t n x z) p.1) h
+  | inl p ↦ subst (λ v. m ≤ v) (ap (λ z. slack t n z b) p.0 ∙ ap (λ z. slack t n x z) p.1) h
   | inr rest ↦ elim rest [
-    | inl p ↦ subst (λ v. m ≤ v) (ap (λ z. cell t n z c) p.0 ∙ ap (λ z. cell t n x z) p.1) k
-    | inr p ↦ subst (λ v. m ≤ v) (ap (λ z. cell t n z a) p.0 ∙ ap (λ z. cell t n x z) p.1) l
+    | inl p ↦ subst (λ v. m ≤ v) (ap (λ z. slack t n z c) p.0 ∙ ap (λ z. slack t n x z) p.1) k
+    | inr p ↦ subst (λ v. m ≤ v) (ap (λ z. slack t n z a) p.0 ∙ ap (λ z. slack t n x z) p.1) l
   ]
 ]
 
 -- the table has the residuals after the step
-pub residuals_step : (C : Matrix) (G : List Pair) (terms : List Term) (t u : List ℕ) (a b c m : ℕ) → AreThree C.size a b c → HasResiduals C G terms t → 0 < m → m ≤ cell t C.size a b → m ≤ cell t C.size b c → m ≤ cell t C.size c a → length u ≡ length t
-    → ((x y : ℕ) → y < C.size → cell u C.size x y ≡ cond (has_pair (cycle_arcs (a ∷ b ∷ c ∷ [])) x y) (lowered (cell t C.size x y) m) (cell t C.size x y))
+pub residuals_step : (C : Matrix) (G : List Pair) (terms : List Term) (t u : List ℤ) (a b c m : ℕ) → AreThree C.size a b c → HasResiduals C G terms t → 0 < m → m ≤ slack t C.size a b → m ≤ slack t C.size b c → m ≤ slack t C.size c a → length u ≡ length t
+    → ((x y : ℕ) → x < C.size → y < C.size → slack u C.size x y ≡ cond (has_pair (cycle_arcs (a ∷ b ∷ c ∷ [])) x y) (lowered (slack t C.size x y) m) (slack t C.size x y))
     → HasResiduals C G (terms ++ dicycle a b c m ∷ []) u
 residuals_step C G terms t u a b c m three has z h k l same each = record {
   square = same ∙ has.square;
@@ -142,19 +125,19 @@ residuals_step C G terms t u a b c m three has z h k l same each = record {
       let q : Bool = has_pair arcs y x in
       let f : ℤ = reduced_entry C 1 terms x y in
       let g : ℤ = reduced_entry C 1 terms y x in
-      let step = word_step (has_pair G y x) (has_pair G x y) p q f g (cell t C.size x y) (cell t C.size y x) m (has.each x y lx ly differ) (has.each y x ly lx (λ e. differ (sym e))) z
+      let step = word_step (has_pair G y x) (has_pair G x y) p q f g (slack t C.size x y) (slack t C.size y x) m (has.each x y lx ly differ) (has.each y x ly lx (λ e. differ (sym e))) z
       (arc_enough C.size a b c x y m t h k l) (arc_enough C.size a b c y x m t h k l) (one_way C.size a b c x y three) in
       let forth = reduced-dicycle C terms a b c m x y in
       let back = reduced-dicycle C terms a b c m y x in
-      subst (λ (w : ℕ). IsResidualWord (residual G (reduced_entry C 1 (terms ++ dicycle a b c m ∷ [])) x y) w) (sym (each x y ly))
-      (subst (λ (v : ℤ). IsResidualWord (residual_of (has_pair G y x) (has_pair G x y) (reduced_entry C 1 (terms ++ dicycle a b c m ∷ []) x y -ℤ v)) (cond p (lowered (cell t C.size x y) m) (cell t C.size x y))) (sym back)
-      (subst (λ (v : ℤ). IsResidualWord (residual_of (has_pair G y x) (has_pair G x y) (v -ℤ (g -ℤ pos (cond q m 0)))) (cond p (lowered (cell t C.size x y) m) (cell t C.size x y))) (sym forth) step));
+      subst (λ (w : ℕ). IsResidualWord (residual G (reduced_entry C 1 (terms ++ dicycle a b c m ∷ [])) x y) w) (sym (each x y lx ly))
+      (subst (λ (v : ℤ). IsResidualWord (residual_of (has_pair G y x) (has_pair G x y) (reduced_entry C 1 (terms ++ dicycle a b c m ∷ []) x y -ℤ v)) (cond p (lowered (slack t C.size x y) m) (slack t C.size x y))) (sym back)
+      (subst (λ (v : ℤ). IsResidualWord (residual_of (has_pair G y x) (has_pair G x y) (v -ℤ (g -ℤ pos (cond q m 0)))) (cond p (lowered (slack t C.size x y) m) (slack t C.size x y))) (sym forth) step));
 }
 
 -- what is spent stays so
-spent_step : (n : ℕ) (t u : List ℕ) (a b c m : ℕ) (cut : CutKind) → ((x y : ℕ) → y < n → cell u n x y ≡ cond (has_pair (cycle_arcs (a ∷ b ∷ c ∷ [])) x y) (lowered (cell t n x y) m) (cell t n x y)) → IsSpent n t cut → IsSpent n u cut
+spent_step : (n : ℕ) (t u : List ℤ) (a b c m : ℕ) (cut : CutKind) → ((x y : ℕ) → x < n → y < n → slack u n x y ≡ cond (has_pair (cycle_arcs (a ∷ b ∷ c ∷ [])) x y) (lowered (slack t n x y) m) (slack t n x y)) → IsSpent n t cut → IsSpent n u cut
 spent_step n t u a b c m cut each is =
-    let stays : (x y : ℕ) → y < n → cell t n x y ≡ 0 → cell u n x y ≡ 0 = λ x y l e. each x y l ∙ lowered-zero (has_pair (cycle_arcs (a ∷ b ∷ c ∷ [])) x y) (cell t n x y) m e in
+    let stays : (x y : ℕ) → x < n → y < n → slack t n x y ≡ 0 → slack u n x y ≡ 0 = λ x y k l e. each x y k l ∙ lowered-zero (has_pair (cycle_arcs (a ∷ b ∷ c ∷ [])) x y) (slack t n x y) m e in
     record {
       a = is.a;
       b = is.b;
@@ -162,10 +145,10 @@ spent_step n t u a b c m cut each is =
       is = is.is;
       three = is.three;
       none_left = elim is.none_left [
-        | inl e ↦ inl (stays is.a is.b is.three.second e)
+        | inl e ↦ inl (stays is.a is.b is.three.first is.three.second e)
         | inr rest ↦ elim rest [
-          | inl e ↦ inr (inl (stays is.b is.c is.three.third e))
-          | inr e ↦ inr (inr (stays is.c is.a is.three.first e))
+          | inl e ↦ inr (inl (stays is.b is.c is.three.second is.three.third e))
+          | inr e ↦ inr (inr (stays is.c is.a is.three.third is.three.first e))
         ]
       ];
     }
@@ -182,26 +165,26 @@ which_least x y z = elim (cases_lt x y) [
 ]
 
 -- the cycle that was taken is spent
-pub spent_cycle : (n : ℕ) (t u : List ℕ) (a b c m : ℕ) → AreThree n a b c → m ≡ min (cell t n a b) (min (cell t n b c) (cell t n c a)) → m < 2 ^ 63
-    → ((x y : ℕ) → y < n → cell u n x y ≡ cond (has_pair (cycle_arcs (a ∷ b ∷ c ∷ [])) x y) (lowered (cell t n x y) m) (cell t n x y))
+pub spent_cycle : (n : ℕ) (t u : List ℤ) (a b c m : ℕ) → AreThree n a b c → m ≡ min (slack t n a b) (min (slack t n b c) (slack t n c a)) → m < 2 ^ 62
+    → ((x y : ℕ) → x < n → y < n → slack u n x y ≡ cond (has_pair (cycle_arcs (a ∷ b ∷ c ∷ [])) x y) (lowered (slack t n x y) m) (slack t n x y))
     → IsSpentCycle n u a b c
 spent_cycle n t u a b c m three e l each =
-    let gone : (x y : ℕ) → y < n → has_pair (cycle_arcs (a ∷ b ∷ c ∷ [])) x y ≡ true → m ≡ cell t n x y → cell u n x y ≡ 0 = λ x y ly on f.
-    each x y ly ∙ taken (has_pair (cycle_arcs (a ∷ b ∷ c ∷ [])) x y) (cell t n x y) m on f l in
-    elim (which_least (cell t n a b) (cell t n b c) (cell t n c a)) [
-      | inl f ↦ inl (gone a b three.second (is_arc a b c a b (inl (refl, refl))) (e ∙ f))
+    let gone : (x y : ℕ) → x < n → y < n → has_pair (cycle_arcs (a ∷ b ∷ c ∷ [])) x y ≡ true → m ≡ slack t n x y → slack u n x y ≡ 0 = λ x y lx ly on f.
+    each x y lx ly ∙ taken (has_pair (cycle_arcs (a ∷ b ∷ c ∷ [])) x y) (slack t n x y) m on f l in
+    elim (which_least (slack t n a b) (slack t n b c) (slack t n c a)) [
+      | inl f ↦ inl (gone a b three.first three.second (is_arc a b c a b (inl (refl, refl))) (e ∙ f))
       | inr rest ↦ elim rest [
-        | inl f ↦ inr (inl (gone b c three.third (is_arc a b c b c (inr (inl (refl, refl)))) (e ∙ f)))
-        | inr f ↦ inr (inr (gone c a three.first (is_arc a b c c a (inr (inr (refl, refl)))) (e ∙ f)))
+        | inl f ↦ inr (inl (gone b c three.second three.third (is_arc a b c b c (inr (inl (refl, refl)))) (e ∙ f)))
+        | inr f ↦ inr (inr (gone c a three.third three.first (is_arc a b c c a (inr (inr (refl, refl)))) (e ∙ f)))
       ]
     ]
   where
-    taken : (p : Bool) (w m : ℕ) → p ≡ true → m ≡ w → m < 2 ^ 63 → cond p (lowered w m) w ≡ 0
+    taken : (p : Bool) (w m : ℕ) → p ≡ true → m ≡ w → m < 2 ^ 62 → cond p (lowered w m) w ≡ 0
     taken true w m on f l = lowered-limited w m (omega (arith, f)) ∙ omega (arith, f)
     taken false w m on f l = absurd (cc)
 
-pub packing_step : (C : Matrix) (G : List Pair) (r s : ScaledTerms) (t u : List ℕ) (a b c m : ℕ) → AreThree C.size a b c → IsPacking C G r t → m ≡ min (cell t C.size a b) (min (cell t C.size b c) (cell t C.size c a)) → 0 < m → m < 2 ^ 63 → length u ≡ length t
-    → ((x y : ℕ) → y < C.size → cell u C.size x y ≡ cond (has_pair (cycle_arcs (a ∷ b ∷ c ∷ [])) x y) (lowered (cell t C.size x y) m) (cell t C.size x y))
+pub packing_step : (C : Matrix) (G : List Pair) (r s : ScaledTerms) (t u : List ℤ) (a b c m : ℕ) → AreThree C.size a b c → IsPacking C G r t → m ≡ min (slack t C.size a b) (min (slack t C.size b c) (slack t C.size c a)) → 0 < m → m < 2 ^ 62 → length u ≡ length t
+    → ((x y : ℕ) → x < C.size → y < C.size → slack u C.size x y ≡ cond (has_pair (cycle_arcs (a ∷ b ∷ c ∷ [])) x y) (lowered (slack t C.size x y) m) (slack t C.size x y))
     → FitsCut C.size (Dicycle (a ∷ b ∷ c ∷ [])) → s ≡ record { scale = r.scale; terms = r.terms ++ dicycle a b c m ∷ [] } → IsPacking C G s u
 packing_step C G r s t u a b c m three packing e z l same each fits is =
     let spent : IsSpent C.size u (Dicycle (a ∷ b ∷ c ∷ [])) = record { a = a; b = b; c = c; is = refl; three = three; none_left = spent_cycle C.size t u a b c m three e l each } in
@@ -254,18 +237,18 @@ least_zero A B D (inr (inr e)) = rw e (third A B)
     third (Some a) (Some d) = omega arith
 
 -- a cycle that is spent in the table has taken all that it can
-pub exhausted_cycle : (C : Matrix) (G : List Pair) (terms : List Term) (t : List ℕ) (a b c : ℕ) → HasResiduals C G terms t → AreThree C.size a b c → IsSpentCycle C.size t a b c → cycle_residual G (reduced_entry C 1 terms) a b c ≡ 0
+pub exhausted_cycle : (C : Matrix) (G : List Pair) (terms : List Term) (t : List ℤ) (a b c : ℕ) → HasResiduals C G terms t → AreThree C.size a b c → IsSpentCycle C.size t a b c → cycle_residual G (reduced_entry C 1 terms) a b c ≡ 0
 exhausted_cycle C G terms t a b c has three spent =
     let r : ℕ → ℕ → ℤ = reduced_entry C 1 terms in
     least_zero (residual G r a b) (residual G r b c) (residual G r c a) (elim spent [
-      | inl e ↦ inl (zero_word (residual G r a b) (cell t C.size a b) (has.each a b three.first three.second three.first_second) e)
+      | inl e ↦ inl (zero_word (residual G r a b) (slack t C.size a b) (has.each a b three.first three.second three.first_second) e)
       | inr rest ↦ elim rest [
-        | inl e ↦ inr (inl (zero_word (residual G r b c) (cell t C.size b c) (has.each b c three.second three.third three.second_third) e))
-        | inr e ↦ inr (inr (zero_word (residual G r c a) (cell t C.size c a) (has.each c a three.third three.first (λ f. three.first_third (sym f))) e))
+        | inl e ↦ inr (inl (zero_word (residual G r b c) (slack t C.size b c) (has.each b c three.second three.third three.second_third) e))
+        | inr e ↦ inr (inr (zero_word (residual G r c a) (slack t C.size c a) (has.each c a three.third three.first (λ f. three.first_third (sym f))) e))
       ]
     ])
 
-pub exhausted : (C : Matrix) (G : List Pair) (terms : List Term) (t : List ℕ) (cut : CutKind) → HasResiduals C G terms t → IsSpent C.size t cut → IsExhausted G (reduced_entry C 1 terms) cut
+pub exhausted : (C : Matrix) (G : List Pair) (terms : List Term) (t : List ℤ) (cut : CutKind) → HasResiduals C G terms t → IsSpent C.size t cut → IsExhausted G (reduced_entry C 1 terms) cut
 exhausted C G terms t cut has is = record {
   a = is.a;
   b = is.b;

@@ -1,22 +1,26 @@
 -- Each step of packing lowers the Lagrangian value by the cycle's multiplier, so what packing leaves shows the packing bound.
-use Rattle.std.proofs.Common.{◌≡◌, ◌≢◌, ℕ, zero, suc, ◌+◌, ◌-◌, ◌*◌, ◌<◌, ◌≤◌, Bool, true, false, cond, eqb, ltb, ◌&&◌, ◌||◌, List, [], ◌∷◌, ◌++◌, length, refl, sym, ◌∙◌, ap, inl, inr, Option, Some, None, ℤ, pos, ◌+ℤ◌, ◌-ℤ◌, ◌≤ℤ◌, subst, arith}
+use Rattle.std.proofs.Common.{◌≡◌, ◌≢◌, ℕ, zero, suc, ◌+◌, ◌-◌, ◌*◌, ◌<◌, ◌≤◌, Bool, true, false, cond, eqb, ltb, ◌&&◌, ◌||◌, List, [], ◌∷◌, ◌++◌, length, refl, sym, ◌∙◌, ap, inl, inr, Option, Some, None, ℤ, pos, ◌+ℤ◌, ◌-ℤ◌, ◌*ℤ◌, ◌≤ℤ◌, subst, arith}
 use Rattle.std.specs.Prelude.{⊤}
-use Rattle.std.specs.List.{sum_by}
+use Rattle.std.specs.List.{All, sum_by}
 use Rattle.std.specs.Int.{int_max}
+use Rattle.std.proofs.Math.IntN.{suc_ℤ-*ℤ, zero-*ℤ}
 use Rattle.std.proofs.lemmas.Int.{ints, clamps}
 use Rattle.std.proofs.lemmas.Bool.{cases_lt}
 use Rattle.std.proofs.lemmas.Bool.Decides.{nat_tests}
 use Rattle.std.proofs.lemmas.List.Sums.{sum_by_push}
 use Rattle.lop_model.specs.declared.pair.Pair.{Pair}
 use Rattle.lop_model.specs.Sums.{pair_sum}
-use Rattle.lop_model.specs.Matrix.{Matrix}
-use Rattle.lop_model.specs.Fixings.{has_pair}
+use Rattle.lop_model.specs.Order.{IsOrder}
+use Rattle.lop_model.specs.Matrix.{Matrix, weight}
+use Rattle.lop_model.specs.Fixings.{has_pair, IsLinearExtension}
 use Rattle.lop_model.specs.Bound.{pair_value, pair_bound}
 use Rattle.lop_model.proofs.SumLemmas.{pair_sum-same, pair_sum-add, pair_sum-one}
 use Rattle.lop_cuts.specs.Arcs.{cycle_arcs}
-use Rattle.lop_cuts.specs.Kind.{right_side_of}
+use Rattle.lop_cuts.specs.Kind.{IsCut, right_side_of}
 use Rattle.lop_cuts.specs.Lagrangian.{Term, right_sides, reduced_entry, lagrangian_value}
-use Rattle.lop_cuts.proofs.LagrangianLemmas.{lagrangian_value-plain}
+use Rattle.lop_cuts.proofs.LagrangianLemmas.{lagrangian_value-plain, weight-le-lagrangian_value, AreValid-AreCuts}
+use Rattle.lop_leaf.specs.Record.{ScaledTerms}
+use Rattle.lop_leaf.specs.Bound.{record_value}
 use Rattle.lop_leaf.specs.Packing.{positive_part, residual, lesser, residual_number, cycle_residual, dicycle, pack_cycle, pack_triple, pack_pair, pack_object, packed_terms, packing_bound, in_turn, AreThree}
 use Rattle.lop_leaf.proofs.ResidualLemmas.{part-positive, residual_of, arc_cases, one_way, reduced-dicycle}
 
@@ -244,3 +248,17 @@ less_at_most b k = omega (arith, ints)
 -- it is at most the pair bound
 pub packing_bound-le : (C : Matrix) (G : List Pair) → packing_bound C G ≤ℤ pair_bound C G
 packing_bound-le C G = less_at_most (pair_bound C G) (sum_by (λ t. t.multiplier) (packed_terms C G))
+
+-- ---- what a record at scale 1 bounds
+
+once : (x : ℤ) → pos 1 *ℤ x ≡ x
+once x =
+    let one : pos 1 *ℤ x ≡ pos 0 *ℤ x +ℤ x = suc_ℤ-*ℤ (pos 0) x in
+    omega (arith, ints, zero-*ℤ x)
+
+-- no order that extends the closed pairs weighs more than the value of a record at scale 1
+pub record_bounds : (C : Matrix) (G : List Pair) (r : ScaledTerms) (v : ℤ) (s : List ℕ) → r.scale ≡ 1 → IsOrder C.size s → IsLinearExtension s G → All (λ t. IsCut t.cut) r.terms → v ≡ record_value C G r → weight C s ≤ℤ v
+record_bounds C G r v s scale order extends cuts is =
+    let most : (pos 1 *ℤ weight C s) ≤ℤ lagrangian_value C G 1 r.terms = weight-le-lagrangian_value C G 1 r.terms s order extends (AreValid-AreCuts C.size r.terms cuts) in
+    let value : v ≡ lagrangian_value C G 1 r.terms = is ∙ ap (λ k. lagrangian_value C G k r.terms) scale in
+    subst (λ x. weight C s ≤ℤ x) (sym value) (subst (λ x. x ≤ℤ lagrangian_value C G 1 r.terms) (once (weight C s)) most)

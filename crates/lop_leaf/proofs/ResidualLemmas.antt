@@ -37,18 +37,18 @@ part-positive x w e h = by_lt_z (pos 0) x
 abbrev pub residual_of : Bool → Bool → ℤ → Option ℕ
 residual_of g h d = cond g (Some 0) (cond h None (Some (positive_part d)))
 
-pub lowered-limited : (w m : ℕ) → w < 2 ^ 63 → lowered w m ≡ w - m
-lowered-limited w m l = let test : eqb w (2 ^ 64 - 1) ≡ false = grind (arith, nat_tests) in rw test refl
+pub lowered-limited : (w m : ℕ) → w < 2 ^ 62 → lowered w m ≡ w - m
+lowered-limited w m l = let test : eqb w (2 ^ 63 - 1) ≡ false = grind (arith, nat_tests) in rw test refl
 
-lowered-free : (w m : ℕ) → w ≡ 2 ^ 64 - 1 → lowered w m ≡ w
-lowered-free w m e = let test : eqb w (2 ^ 64 - 1) ≡ true = grind (arith, nat_tests) in rw test refl
+lowered-free : (w m : ℕ) → w ≡ 2 ^ 63 - 1 → lowered w m ≡ w
+lowered-free w m e = let test : eqb w (2 ^ 63 - 1) ≡ true = grind (arith, nat_tests) in rw test refl
 
 -- nothing stays nothing
 pub lowered-zero : (p : Bool) (w m : ℕ) → w ≡ 0 → cond p (lowered w m) w ≡ 0
 lowered-zero true w m e = lowered-limited w m (omega arith) ∙ omega arith
 lowered-zero false w m e = e
 
-lowered_arc : (u v : ℤ) (w m : ℕ) → w ≡ positive_part (u -ℤ v) → w < 2 ^ 63 → 0 < m → m ≤ w → IsResidualWord (Some (positive_part ((u -ℤ pos m) -ℤ (v -ℤ pos 0)))) (lowered w m)
+lowered_arc : (u v : ℤ) (w m : ℕ) → w ≡ positive_part (u -ℤ v) → w < 2 ^ 62 → 0 < m → m ≤ w → IsResidualWord (Some (positive_part ((u -ℤ pos m) -ℤ (v -ℤ pos 0)))) (lowered w m)
 lowered_arc u v w m e l h k =
     let is : u -ℤ v ≡ pos w = part-positive (u -ℤ v) w e (omega arith) in
     let left : positive_part ((u -ℤ pos m) -ℤ (v -ℤ pos 0)) ≡ w - m = part-is ((u -ℤ pos m) -ℤ (v -ℤ pos 0)) (w - m) (omega (arith, ints)) in
@@ -61,7 +61,7 @@ raised_reverse u v w w2 m e f h k =
     let after : positive_part ((u -ℤ pos 0) -ℤ (v -ℤ pos m)) ≡ 0 = part-to_zero ((u -ℤ pos 0) -ℤ (v -ℤ pos m)) (omega (arith, ints)) in
     (e ∙ before ∙ sym after, omega (arith, after))
 
-unchanged : (u v : ℤ) (w : ℕ) → w ≡ positive_part (u -ℤ v) → w < 2 ^ 63 → IsResidualWord (Some (positive_part ((u -ℤ pos 0) -ℤ (v -ℤ pos 0)))) w
+unchanged : (u v : ℤ) (w : ℕ) → w ≡ positive_part (u -ℤ v) → w < 2 ^ 62 → IsResidualWord (Some (positive_part ((u -ℤ pos 0) -ℤ (v -ℤ pos 0)))) w
 unchanged u v w e l =
     let same : (u -ℤ pos 0) -ℤ (v -ℤ pos 0) ≡ u -ℤ v = omega (arith, ints) in
     let part : positive_part ((u -ℤ pos 0) -ℤ (v -ℤ pos 0)) ≡ positive_part (u -ℤ v) = ap positive_part same in
@@ -82,7 +82,7 @@ word_step false false false false u v w w2 m e f z k l o = unchanged u v w e.0 (
 -- ---- the least of three
 
 -- the least residual of a cycle, where not all are without limit, is the least of the words
-pub least_word : (A B D : Option ℕ) (x y z : ℕ) → IsResidualWord A x → IsResidualWord B y → IsResidualWord D z → (A ≡ None → B ≡ None → D ≡ None → ⊥) → (residual_number (lesser A (lesser B D)) ≡ min x (min y z)) × (min x (min y z) < 2 ^ 63)
+pub least_word : (A B D : Option ℕ) (x y z : ℕ) → IsResidualWord A x → IsResidualWord B y → IsResidualWord D z → (A ≡ None → B ≡ None → D ≡ None → ⊥) → (residual_number (lesser A (lesser B D)) ≡ min x (min y z)) × (min x (min y z) < 2 ^ 62)
 least_word (Some a) (Some b) (Some d) x y z e f g o = (omega (arith, e.0, f.0, g.0), omega (arith, e.0, e.1, f.0, g.0))
 least_word (Some a) (Some b) None x y z e f g o = (omega (arith, e.0, e.1, f.0, f.1, g), omega (arith, e.0, e.1, f.0, g))
 least_word (Some a) None (Some d) x y z e f g o = (omega (arith, e.0, e.1, f, g.0, g.1), omega (arith, e.0, e.1, f, g.0))

@@ -8,7 +8,9 @@ mod evaluated;
 mod hints;
 pub mod lanes;
 mod leaf_record;
+mod margins;
 mod pack;
+mod rows;
 #[cfg(test)]
 mod tests;
 mod ticket;

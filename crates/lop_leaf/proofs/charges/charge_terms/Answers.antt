@@ -1,6 +1,4 @@
 use Rattle.std.proofs.Common.{◌≡◌, ◌+◌, ◌*◌, ◌^◌, ◌<◌, ◌≤◌, List, length, get_or, take, sym, ◌∙◌, ap, subst, arith}
-use Rattle.std.specs.List.{All}
-use Rattle.lop_model.specs.declared.pair.Pair.{Pair}
 use Rattle.lop_cuts.specs.Arcs.{arc}
 use Rattle.lop_cuts.specs.Kind.{IsArcBelow, IsCut, arcs_of, right_side_of, FitsCut}
 use Rattle.lop_cuts.specs.Lagrangian.{Term, charge, right_sides}
@@ -11,19 +9,17 @@ use Rattle.lop_leaf.proofs.ChargeLemmas.{charge_take-le, side-le}
 use Rattle.lop_cuts.proofs.ChargeLemmas.{right_side_more}
 use Rattle.lop_leaf.proofs.charges.charge_terms.Goals as goal
 
-pub charge_arcs-requires-clause-below : goal.charge_arcs-requires-clause-below
-charge_arcs-requires-clause-below c =
+pub charge_cut-requires-clause-fits : goal.charge_cut-requires-clause-fits
+charge_cut-requires-clause-fits c =
     let terms = c.args.rec.now.terms in
     let i = c.loop-index.index in
     let t : Term = c.term-term.result.now in
     let is : c.term.inside.cut ≡ (get_or terms i t).cut = ap (λ (u : Term). u.cut) (c.term.view_is ∙ c.term-term.ensures.value) in
     let within : i < length terms = omega (arith, c.len-index-end.ensures.value) in
-    let fits : FitsCut c.args.n c.term.inside.cut = subst (λ k. FitsCut c.args.n k) (sym is) (c.requires.fit i t within) in
-    let P = λ (xs : List Pair). All (IsArcBelow c.args.n) xs in
-    subst P (sym c.as_slice.ensures.value) (c.arcs.ensures.below c.args.n fits)
+    subst (λ k. FitsCut c.args.n k) (sym is) (c.requires.fit i t within)
 
-pub charge_arcs-requires-clause-bounded : goal.charge_arcs-requires-clause-bounded
-charge_arcs-requires-clause-bounded c a b l m =
+pub charge_cut-requires-clause-bounded : goal.charge_cut-requires-clause-bounded
+charge_cut-requires-clause-bounded c a b l m =
     let is = c.loop-index.invariant.charged.each a b l m in
     let most = charge_take-le c.args.rec.now c.loop-index.index a b c.len-index-end.ensures.terms (omega (arith, c.len-index-end.ensures.value)) in
     omega (arith, is, most)
@@ -38,18 +34,18 @@ loop-index-preserved c =
     let within : i < length terms = omega (arith, c.len-index-end.ensures.value) in
     let cut : IsCut (get_or terms i t).cut = c.len-index-end.ensures.terms.cuts i t within in
     let m : IsMultiplier (get_or terms i t).multiplier = c.len-index-end.ensures.terms.multipliers i t within in
-    let arcs : c.as_slice.result.now ≡ arcs_of (get_or terms i t).cut = c.as_slice.ensures.value ∙ c.arcs.ensures.items ∙ ap arcs_of is in
+    let arcs : arcs_of c.term.inside.cut ≡ arcs_of (get_or terms i t).cut = ap arcs_of is in
     let factor : c.from.result ≡ (get_or terms i t).multiplier = c.from.ensures ∙ by in
     let side : c.from-in-loop-index.result ≡ right_side_of (get_or terms i t).cut = c.from-in-loop-index.ensures ∙ c.right_side.ensures.value ∙ ap right_side_of is in
     let product : c.from.result * c.from-in-loop-index.result ≡ (get_or terms i t).multiplier * right_side_of (get_or terms i t).cut = ap (λ k. k * c.from-in-loop-index.result) factor ∙ ap (λ k. (get_or terms i t).multiplier * k) side in
     let small : c.from.result * c.from-in-loop-index.result ≤ 2 ^ 69 = side-le c.from.result c.from-in-loop-index.result (omega (arith, factor, m.within_limit)) (omega (arith, c.from-in-loop-index.ensures, c.right_side.ensures.at_most)) in
     record {
       charged = record {
-        square = c.charge_arcs.ensures.same_length ∙ c.loop-index.invariant.charged.square;
+        square = c.charge_cut.ensures.same_length ∙ c.loop-index.invariant.charged.square;
         each = λ a b l n.
-            c.charge_arcs.ensures.each a b l n
-            ∙ ap (λ k. k + c.term.inside.multiplier * times (arc a b) c.as_slice.result.now) (c.loop-index.invariant.charged.each a b l n)
-            ∙ ap (λ k. charge (take i terms) a b + k * times (arc a b) c.as_slice.result.now) by
+            c.charge_cut.ensures.each a b l n
+            ∙ ap (λ k. k + c.term.inside.multiplier * times (arc a b) (arcs_of c.term.inside.cut)) (c.loop-index.invariant.charged.each a b l n)
+            ∙ ap (λ k. charge (take i terms) a b + k * times (arc a b) (arcs_of c.term.inside.cut)) by
             ∙ ap (λ k. charge (take i terms) a b + (get_or terms i t).multiplier * times (arc a b) k) arcs
             ∙ sym (charge_more terms i t a b within cut);
       };

@@ -1,0 +1,35 @@
+use Rattle.std.proofs.Common.{◌≡◌, ◌<◌, min, neg_ℤ, ◌∙◌, ap, rules, arith, FitsSigned}
+use Rattle.std.specs.Int.{w64, int_min}
+use Rattle.std.proofs.lemmas.Int.{to_z-of_z}
+use Rattle.lop_leaf.specs.Packing.{positive_part}
+use Rattle.lop_leaf.specs.Table.{slack}
+use Rattle.lop_leaf.proofs.MarginLemmas.{part_least, slack_turned, turned_word}
+use Rattle.lop_leaf.proofs.margins.least_forth.Goals as goal
+
+pub returns : goal.returns
+returns c =
+    let t = c.args.table.now in
+    let n = c.args.n in
+    let i = c.args.i in
+    let j = c.args.j in
+    let k = c.args.k in
+    let x = c.margin_at-first.result in
+    let y = c.margin_at-second.result in
+    let z = c.margin_at-third.result in
+    let fits_x : FitsSigned w64 x = search rules in
+    let fits_y : FitsSigned w64 y = search rules in
+    let fits_z : FitsSigned w64 z = search rules in
+    let fits_two : FitsSigned w64 c.min.result = search rules in
+    let fits_all : FitsSigned w64 c.min-2.result = search rules in
+    let turned = turned_word z c.margin_at-third.ensures.low fits_z in
+    let two : c.min.result ≡ int_min y (neg_ℤ z) = cc (c.min.ensures.value, to_z-of_z w64 y fits_y, turned) in
+    let all : c.min-2.result ≡ int_min x c.min.result = cc (c.min-2.ensures.value, to_z-of_z w64 x fits_x, to_z-of_z w64 c.min.result fits_two) in
+    let value : c.positive.result ≡ positive_part c.min-2.result = cc (c.positive.ensures, to_z-of_z w64 c.min-2.result fits_all) in
+    let up : i < k = omega (arith, c.requires.first, c.requires.second) in
+    let one : positive_part x ≡ slack t n i j = ap positive_part c.margin_at-first.ensures.value in
+    let other : positive_part y ≡ slack t n j k = ap positive_part c.margin_at-second.ensures.value in
+    let last : positive_part (neg_ℤ z) ≡ slack t n k i = ap (λ v. positive_part (neg_ℤ v)) c.margin_at-third.ensures.value ∙ slack_turned t n i k up in
+    value ∙ ap positive_part all ∙ ap (λ v. positive_part (int_min x v)) two ∙ part_least x y (neg_ℤ z)
+    ∙ ap (λ p. min p (min (positive_part y) (positive_part (neg_ℤ z)))) one
+    ∙ ap (λ p. min (slack t n i j) (min p (positive_part (neg_ℤ z)))) other
+    ∙ ap (λ p. min (slack t n i j) (min (slack t n j k) p)) last

@@ -184,6 +184,8 @@ fn tickets(rt: HostRuntime) -> Result<(), Fail> {
     );
     ticket.fill(5, 9, 8, &[], &inherited);
     assert_eq!(rt; ticket.path().len(), 0);
+    ticket.raise_best(12);
+    assert_eq!(rt; (ticket.node(), ticket.bound(), ticket.best()), (5, 9, 12));
     Ok(())
 }
 

@@ -1,4 +1,4 @@
-ghost use Rattle.std.specs.Prelude.{◌≡◌, ◌<◌, ◌≤◌, [], ◌∷◌, ◌++◌, length, reverse, vec_len, vec_capacity, IfOk, pos};
+ghost use Rattle.std.specs.Prelude.{◌≡◌, ◌<◌, ◌≤◌, ◌≤ℤ◌, [], ◌∷◌, ◌++◌, length, reverse, vec_len, vec_capacity, IfOk, pos};
 ghost use Rattle.std.specs.Borrow.{sem};
 ghost use Rattle.lop_leaf.specs.Ticket.{TicketFields, pair_count};
 ghost use Rattle.lop_leaf.specs.Record.{no_terms};
@@ -147,6 +147,14 @@ impl Ticket {
         ensures { self.new ≡ record self.old { path = self.old.path ++ pair ∷ [] } }
     {
         put_pair(&mut self.path, pair);
+    }
+
+    /// Raises the greatest weight that the ticket tells. Whether the ticket is sound doesn't rest on it.
+    pub fn raise_best(&mut self, to: i128)
+        requires { self.old.best ≤ℤ to }
+        ensures { self.new ≡ record self.old { best = to } }
+    {
+        self.best = to;
     }
 
     /// Turns the path round. O(its length).

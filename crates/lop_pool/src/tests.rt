@@ -8,7 +8,7 @@ use lop_node::PackJudge;
 use std::alloc::{AllocError, Global};
 use std::sync::atomic::{AtomicBool, Ordering};
 use std::test::Fail;
-use std::thread::Threads;
+use std::thread::{Threads, yield_now};
 
 // One judge for n objects.
 fn one(alloc: Global, n: u16) -> Result<Vec<PackJudge>, AllocError>
@@ -79,6 +79,10 @@ fn one_node(rt: HostRuntime) -> Result<(), Fail> {
     Ok(())
 }
 
+// How often a worker looks for the other. Between two looks it lets other threads run, so on a busy machine a look
+// takes as long as they do.
+const LOOKS: u32 = 20_000_000;
+
 // Two workers show each other that they have a ticket. Each looks for the other a bounded number of times.
 #[derive(Drop)]
 struct Meeting {
@@ -91,11 +95,12 @@ struct Meeting {
 // Shows itself, and looks for the other.
 fn meet(own: &AtomicBool, other: &AtomicBool, met: &AtomicBool) {
     own.store(true, Ordering::SeqCst);
-    for _ in 0..200_000_000 {
+    for _ in 0..LOOKS {
         if other.load(Ordering::SeqCst) {
             met.store(true, Ordering::SeqCst);
             return;
         }
+        yield_now();
     }
 }
 

@@ -1,41 +1,25 @@
 -- A certificate that was written is accepted by the check that follows.
-use Rattle.std.proofs.Common.{◌≡◌, ◌≢◌, ◌⊎◌, ℕ, ◌≤◌, false, Bool, List, [], ◌∷◌, Option, None, Some, IfSome, Ok, ℤ, refl, sym, ◌∙◌, ap, subst, inl, inr}
+use Rattle.std.proofs.Common.{◌≡◌, ◌≢◌, ◌⊎◌, ℕ, ◌≤◌, false, Bool, List, Option, None, Some, ℤ, refl, sym, ◌∙◌, ap, subst, inl, inr}
 use Rattle.std.specs.List.{Any}
 use Rattle.std.specs.Str.{bytes_eq}
 use Rattle.std.proofs.lemmas.Bool.Decides.{not_from_Decides}
 use Rattle.std.proofs.lemmas.Slice.Eq.{bytes_eq-Decides}
-use Rattle.lop_desk.specs.World.{World, NamedFile, file_named, put_file}
-use Rattle.lop_desk.specs.Causes.{Rose}
-use Rattle.lop_desk.specs.Desk.{IsMissing}
 use Rattle.lop_desk.proofs.Files.{named_put, named_put_other}
 use Rattle.lop_desk.proofs.Printing.{rose_from}
-use Rattle.lop_model.specs.Matrix.{Matrix}
-use Rattle.lop_core.specs.Machine.{state_bound}
-use Rattle.lop_certtext.specs.Answer.{CheckAnswer, accepted}
-use Rattle.lop_certtext.specs.Certificate.{Certificate, certificate_text, IsTreeCertificate}
 use Rattle.lop_certtext.proofs.AcceptedText.{IsCheckAnswer-certificate_text}
-use Rattle.lop_report.specs.Lines.{is_optimal}
-use Rattle.lop_words.specs.declared.command.Command.{Command}
-use Rattle.lop_words.specs.declared.command.Command.TheVariants.{Solve, Check}
-use Rattle.lop_words.specs.declared.command.Format.{Format}
 use Rattle.lop_words.specs.Command.{command_of}
 use Rattle.lop_words.proofs.CommandLemmas.{names_apart, limits}
-use Rattle.lop_tool.specs.declared.input.Instance.{Instance}
+use Rattle.lop_tool.specs.Names.{World, NamedFile, file_named, put_file, Rose, IsMissing, Matrix, CheckAnswer, accepted}
+use Rattle.lop_tool.specs.Names.{certificate_text, IsTreeCertificate, is_optimal, Command, Solve, Check, Format, Instance}
+use Rattle.lop_tool.specs.Names.{IsCheckAnswer}
 use Rattle.lop_tool.specs.declared.status.Status.TheVariants as status
-use Rattle.lop_tool.specs.Status.{number, done_status, IsDoneNumber}
-use Rattle.lop_tool.specs.Told.{files_of, settled, with_file, Leaves}
-use Rattle.lop_tool.specs.Input.{input_named, reading_of}
-use Rattle.lop_tool.specs.Search.{Found, found_of, IsSearchOf}
-use Rattle.lop_tool.specs.Certificate.{IsCertificateFile}
-use Rattle.lop_tool.specs.Solve.{Solves}
-use Rattle.lop_tool.specs.Check.{IsChecked, IsAnswerFor}
-use Rattle.lop_tool.specs.Steps.{reads}
-use Rattle.lop_tool.specs.Ended.{Ended}
-use Rattle.lop_tool.specs.Run.{DoneBy}
-use Rattle.lop_tool.specs.RoundTrip.{BothEnded, IsRoundTrip, round_trip, Agree}
+use Rattle.lop_tool.specs.{Status.number, Status.done_status, Status.IsDoneNumber, Told.files_of, Told.Leaves}
+use Rattle.lop_tool.specs.{Input.input_named, Input.reading_of, Search.Found, Solve.Solves, Check.IsChecked, Reply.reads}
+use Rattle.lop_tool.specs.{Ended.Ended, Run.DoneBy, RoundTrip.BothEnded, RoundTrip.IsRoundTrip, RoundTrip.round_trip}
+use Rattle.lop_tool.specs.{RoundTrip.Agree}
 use Rattle.lop_tool.proofs.CertificateLength.{length-certificate_of}
 use Rattle.lop_tool.proofs.CheckLemmas.{checked_once, accepted_at}
-use Rattle.lop_tool.proofs.Stops.{files-settled, not_any}
+use Rattle.lop_tool.proofs.Stops.{files-at_rest, not_any}
 use Rattle.lop_tool.proofs.Promises.{solves, checks, ends_well}
 
 -- ---- a check of an accepted certificate
@@ -52,7 +36,7 @@ same_numbers value bound other more is = let first : value ≡ other = cc in let
 accepted_ends : (format : Format) (file name : List ℕ) (v : World) (new : Option World) (before now n : ℕ) (input : Instance) (value bound : ℤ) → Ended (Some (Check format file name)) (Some v) new before now n → IsChecked format file name v.files input (accepted value bound) → ¬ (Rose before now)
     → (n ≡ number (done_status (is_optimal value bound))) ⊎ (n ≡ number status.Memory)
 accepted_ends format file name v new before now n input value bound ended checked calm =
-    elim (ends_well v new before now n (Check format file name) ended (both_there format file name v input (accepted value bound) checked) (accepted_at format file name input value bound v.files checked) calm) [
+    elim (ends_well new before now n (Check format file name) v ended (both_there format file name v input (accepted value bound) checked) (accepted_at format file name input value bound v.files checked) calm) [
       | inl ends ↦
           let d = checks (Some v) new before now n (Some (Check format file name)) ended format file name refl ends in
           let same = checked_once format file name v.files d.kept.input input (accepted d.kept.value d.kept.bound) (accepted value bound) d.kept.checked checked in
@@ -70,19 +54,19 @@ left_accepted format file name nodes w v optimal text left apart few s files =
     let made : NamedFile = record { name = name; bytes = certificate_text c } in
     let holds : IsTreeCertificate s.input.weights c = subst (λ (C : Matrix). IsTreeCertificate C c) s.search.weights_are s.left_is.true_of.holds in
     let short = length-certificate_of s.input.weights nodes s.found s.core c few s.search s.left_is.true_of.of_core s.left_is.true_of.holds in
-    let answer : IsAnswerFor s.input.weights (certificate_text c) (accepted c.value c.bound) = IsCheckAnswer-certificate_text s.input.weights s.search.searched.weights c holds short in
+    let answer : IsCheckAnswer s.input.weights (certificate_text c) (accepted c.value c.bound) = IsCheckAnswer-certificate_text s.input.weights s.search.searched.weights c holds short in
     let value : c.value ≡ s.found.value = s.left_is.true_of.of_core.value_is ∙ ap (λ (x : Found). x.value) (sym s.search.found_is) in
     let bound : c.bound ≡ s.found.bound = s.left_is.true_of.of_core.bound_is ∙ ap (λ (x : Found). x.bound) (sym s.search.found_is) in
     let numbers : accepted c.value c.bound ≡ accepted s.found.value s.found.bound = ap (λ (x : ℤ). accepted x c.bound) value ∙ ap (accepted s.found.value) bound in record {
       accepted_file = ap (λ (fs : List NamedFile). input_named format fs file) files ∙ ap (reading_of format) (named_put_other made w.files file apart) ∙ s.accepted_file;
-      given = record { bytes = certificate_text c; there = ap (λ (fs : List NamedFile). file_named fs name) files ∙ named_put made w.files; answer_is = subst (λ (a : CheckAnswer). IsAnswerFor s.input.weights (certificate_text c) a) numbers answer };
+      given = record { bytes = certificate_text c; there = ap (λ (fs : List NamedFile). file_named fs name) files ∙ named_put made w.files; answer_is = subst (λ (a : CheckAnswer). IsCheckAnswer s.input.weights (certificate_text c) a) numbers answer };
     }
 
 -- the file that was left is among those told after
 files_left : (w : World) (mid : Option World) (text : List ℕ) (left : Option NamedFile) (made : NamedFile) → left ≡ Some made → Leaves text left (Some w) mid → files_of mid ≡ Some (put_file made w.files)
 files_left w mid text left made is leaves =
     let named : Leaves text (Some made) (Some w) mid = subst (λ (l : Option NamedFile). Leaves text l (Some w) mid) is leaves in
-    sym (files-settled mid) ∙ ap files_of named
+    sym (files-at_rest mid) ∙ ap files_of named
 
 -- the two runs of a round trip
 trip : (format : Format) (file name : List ℕ) (nodes : ℕ) (w : World) (mid new : Option World) (before between now solved checked : ℕ) → name ≢ file → nodes ≤ 1000000 → DoneBy (Solves format file nodes (Some name) (Some w.files)) (Some w) mid solved → Ended (Some (Check format file name)) mid new between now checked

@@ -2,17 +2,14 @@
 use Rattle.std.proofs.Common.{◌≡◌, ℕ, ◌+◌, ◌*◌, ◌^◌, ◌≤◌, List, [], ◌∷◌, ◌++◌, length, map, ◌∙◌, ap, refl, sym, subst, arith, length-append}
 use Rattle.std.proofs.lemmas.List.{length-map}
 use Rattle.lop_core.specs.Records.{NodeRecord}
-use Rattle.lop_core.specs.Core.{CoreFields}
-use Rattle.lop_core.specs.Machine.{SearchState}
 use Rattle.lop_core.specs.Journal.{replay}
 use Rattle.lop_core.proofs.Counts.{counted}
 use Rattle.lop_certtext.specs.CutLine.{cut_line}
-use Rattle.lop_certtext.specs.Tree.{Tree, tree_lines}
 use Rattle.lop_certtext.specs.declared.word.CertWord.TheVariants.{End}
-use Rattle.lop_certtext.specs.Certificate.{Certificate, certificate_lines, certificate_text, IsTreeCertificate}
 use Rattle.lop_certtext.proofs.AcceptedText.{short_text, lines_written}
-use Rattle.lop_certwrite.specs.CoreTree.{NodeTree, one_node, two_below, node_count, certificate_tree, IsCertificateOf}
-use Rattle.lop_model.specs.Matrix.{Matrix, IsWeights}
+use Rattle.lop_tool.specs.Names.{CoreFields, SearchState, Tree, tree_lines, Certificate, certificate_lines}
+use Rattle.lop_tool.specs.Names.{certificate_text, IsTreeCertificate, NodeTree, one_node, two_below, node_count}
+use Rattle.lop_tool.specs.Names.{certificate_tree, IsCertificateOf, Matrix, IsWeights}
 use Rattle.lop_tool.specs.Search.{Found, IsSearchOf}
 
 -- a tree has a line for each node

@@ -1,27 +1,18 @@
 -- What the core of a finished search says of its weights.
-use Rattle.std.proofs.Common.{◌≡◌, ℕ, ◌+◌, ◌*◌, [], ◌≤◌, List, ℤ, int_le, ◌≤ℤ◌, Bool, true, false, cond, ◌&&◌, inl, inr, refl, sym, ◌∙◌, ap, subst, arith}
+use Rattle.std.proofs.Common.{◌≡◌, ℕ, [], ◌≤◌, List, ℤ, ◌≤ℤ◌, inl, inr, refl, sym, subst, arith}
 use Rattle.std.proofs.lemmas.Int.{ints}
-use Rattle.lop_model.specs.Order.{IsOrder}
-use Rattle.lop_model.specs.Matrix.{Matrix, IsWeights, weight}
 use Rattle.lop_model.proofs.MatrixLemmas.{weight_within}
-use Rattle.lop_leaf.specs.Packing.{packing_bound}
-use Rattle.lop_core.specs.Machine.{Problem, state_bound}
 use Rattle.lop_core.specs.Tree.{out_count}
-use Rattle.lop_core.specs.Core.{CoreFields, HasHistory, prepared}
-use Rattle.lop_core.specs.Outcome.{IsFinished}
-use Rattle.lop_core.specs.AllOrders.{factorial}
 use Rattle.lop_core.proofs.DoneNodes.{closed_within}
 use Rattle.lop_core.proofs.NodeCount.{core_nodes_factorial}
 use Rattle.lop_core.proofs.Alone.{core_outcome, spent_above, bound_closed}
 use Rattle.lop_core.proofs.CoreLemmas.{core_bound}
 use Rattle.lop_core.proofs.Monotone.{core_from_start, core_packed, core_packed_closed}
-use Rattle.lop_climb.specs.StartOrder.{IsBeckerOrder}
 use Rattle.lop_report.proofs.TotalLemmas.{within_limit}
-use Rattle.lop_climb.specs.Insertion.{IsClimbedFrom}
-use Rattle.lop_tool.specs.declared.solve.Solution.{Solution}
-use Rattle.lop_tool.specs.Input.{IsOfSize}
-use Rattle.lop_tool.specs.Search.{found_of, IsClimbed, IsSearched, IsPrepared, IsSearchOf}
-use Rattle.lop_tool.specs.Solve.{IsPrintable}
+use Rattle.lop_tool.specs.Names.{Matrix, IsWeights, weight, packing_bound, Problem, state_bound, CoreFields, HasHistory}
+use Rattle.lop_tool.specs.Names.{prepared, IsFinished, IsBeckerOrder, IsClimbedFrom, Solution}
+use Rattle.lop_tool.specs.{Input.IsOfSize, Search.found_of, Search.IsClimbed, Search.IsSearched, Search.IsPrepared}
+use Rattle.lop_tool.specs.{Search.IsSearchOf, Solve.IsPrintable}
 
 -- a climb that leads to a value leads to a greater one
 climbed_on : (C : Matrix) (v w : ℤ) → v ≤ℤ w → IsClimbed C v → IsClimbed C w
@@ -31,7 +22,7 @@ climbed_on C v w more c = record { start = c.start; is_start = c.is_start; order
 pub climbed_from : (C : Matrix) (start order : List ℕ) → IsBeckerOrder C start → IsClimbedFrom C start order → IsClimbed C (weight C order)
 climbed_from C start order becker climb = record { start = start; is_start = becker; order = order; climb = climb; least = grind (arith, ints) }
 
-of_core : (core : CoreFields) → IsPrepared core → HasHistory core → IsFinished core.problem core.state → state_bound core.state ≤ℤ packing_bound core.problem.weights [] → IsSearched core.problem.weights core.problem.budget (found_of core)
+of_core : (core : CoreFields) → IsPrepared core.problem → HasHistory core → IsFinished core.problem core.state → state_bound core.state ≤ℤ packing_bound core.problem.weights [] → IsSearched core.problem.weights core.problem.budget (found_of core)
 of_core core p h f packed = record {
   weights = p.weights;
   outcome = core_outcome core h f;
@@ -49,7 +40,7 @@ of_core core p h f packed = record {
 finished_packed : (core : CoreFields) → 1 ≤ core.problem.budget → HasHistory core → IsFinished core.problem core.state → state_bound core.state ≤ℤ packing_bound core.problem.weights []
 finished_packed core positive h f = elim f.closed_or_spent [ inl closed ↦ core_packed_closed core h (bound_closed core.state closed) | inr spent ↦ core_packed core h (omega (arith, positive)) ]
 
-of_prepared : (core : CoreFields) → IsPrepared core → HasHistory core → IsFinished core.problem core.state → IsSearchOf core.problem.weights core.problem.budget (found_of core) core
+of_prepared : (core : CoreFields) → IsPrepared core.problem → HasHistory core → IsFinished core.problem core.state → IsSearchOf core.problem.weights core.problem.budget (found_of core) core
 of_prepared core p h f = record {
   found_is = refl;
   weights_are = refl;
@@ -61,23 +52,14 @@ of_prepared core p h f = record {
 
 -- a core that was just made, with an order that weighs at least as much as the start order
 pub IsPrepared-made : (C : Matrix) (s : List ℕ) (budget : ℕ) (core : CoreFields) → core ≡ prepared (record { weights = C; start = weight C s; budget = budget }) s → 1 ≤ budget → IsWeights C → ((t : List ℕ) → IsBeckerOrder C t → weight C t ≤ℤ weight C s) → IsClimbed C (weight C s)
-    → IsPrepared core × (out_count core.state.nodes ≡ 0) × (core.state.evaluated ≡ 0)
+    → IsPrepared core.problem × (out_count core.state.nodes ≡ 0) × (core.state.evaluated ≡ 0)
 IsPrepared-made C s budget core is positive weights from_start climbed =
     let problem : Problem = record { weights = C; start = weight C s; budget = budget } in
-    subst (λ (x : CoreFields). IsPrepared x × (out_count x.state.nodes ≡ 0) × (x.state.evaluated ≡ 0)) (sym is) (record { positive = positive; weights = weights; from_start = from_start; climbed = climbed }, refl, refl)
-
--- what is prepared stays so while the problem stays
-still_prepared : (old core : CoreFields) → core.problem ≡ old.problem → IsPrepared old → IsPrepared core
-still_prepared old core same p = record {
-  positive = subst (λ (q : Problem). 1 ≤ q.budget) (sym same) p.positive;
-  weights = subst (λ (q : Problem). IsWeights q.weights) (sym same) p.weights;
-  from_start = subst (λ (q : Problem). (t : List ℕ) → IsBeckerOrder q.weights t → weight q.weights t ≤ℤ q.start) (sym same) p.from_start;
-  climbed = subst (λ (q : Problem). IsClimbed q.weights q.start) (sym same) p.climbed;
-}
+    subst (λ (x : CoreFields). IsPrepared x.problem × (out_count x.state.nodes ≡ 0) × (x.state.evaluated ≡ 0)) (sym is) (record { positive = positive; weights = weights; from_start = from_start; climbed = climbed }, refl, refl)
 
 -- a search from a prepared core to its end
-pub solved_from : (old core : CoreFields) → core.problem ≡ old.problem → IsPrepared old → HasHistory core → IsFinished core.problem core.state → IsSearchOf old.problem.weights old.problem.budget (found_of core) core
-solved_from old core same p h f = subst (λ (q : Problem). IsSearchOf q.weights q.budget (found_of core) core) same (of_prepared core (still_prepared old core same p) h f)
+pub solved_from : (old core : CoreFields) → core.problem ≡ old.problem → IsPrepared old.problem → HasHistory core → IsFinished core.problem core.state → IsSearchOf old.problem.weights old.problem.budget (found_of core) core
+solved_from old core same p h f = subst (λ (q : Problem). IsSearchOf q.weights q.budget (found_of core) core) same (of_prepared core (subst IsPrepared (sym same) p) h f)
 
 -- its answer can be printed
 IsPrintable-solved : (budget : ℕ) (x : Solution) → IsSearchOf x.input.weights budget (found_of x.core) x.core → IsOfSize x.input.weights.size x.input.profile → IsPrintable x

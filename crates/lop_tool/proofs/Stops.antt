@@ -1,21 +1,13 @@
 -- What is told of the files by each step, and why a command stops.
-use Rattle.std.proofs.Common.{◌≡◌, ◌⊎◌, ℕ, zero, suc, arith, ◌≤◌, List, [], ◌∷◌, Option, None, Some, IfSome, IfErr, Result, Ok, Err, inl, inr, refl, sym, ◌∙◌, ap, subst}
+use Rattle.std.proofs.Common.{◌≡◌, ℕ, zero, suc, arith, ◌≤◌, List, [], ◌∷◌, Option, None, Some, IfSome, IfErr, Result, Ok, Err, inl, inr, refl, sym, ◌∙◌, ap, subst, ◌⊎◌}
 use Rattle.std.specs.List.{Any}
-use Rattle.lop_desk.specs.World.{World, NamedFile, file_named}
-use Rattle.lop_desk.specs.Desk.{IsMissing}
 use Rattle.lop_desk.proofs.Printing.{rose_from}
-use Rattle.lop_words.specs.declared.command.Command.{Command}
-use Rattle.lop_words.specs.declared.command.Format.{Format}
-use Rattle.lop_tool.specs.declared.input.Instance.{Instance}
-use Rattle.lop_tool.specs.declared.refusal.InputRefusal.{InputRefusal}
-use Rattle.lop_tool.specs.declared.refusal.Refusal.{Refusal}
-use Rattle.lop_tool.specs.declared.refusal.Refusal.TheVariants.{Input}
-use Rattle.lop_tool.specs.declared.stop.Stop.{Stop}
+use Rattle.lop_tool.specs.Names.{World, NamedFile, file_named, IsMissing, Command, Format, Instance, InputRefusal, Refusal}
+use Rattle.lop_tool.specs.Names.{Input, Stop, Rose}
 use Rattle.lop_tool.specs.declared.stop.Stop.TheVariants as stop
-use Rattle.lop_tool.specs.Input.{input_named}
-use Rattle.lop_tool.specs.Told.{files_of, settled}
-use Rattle.lop_tool.specs.Steps.{reads, RefusesFirst}
-use Rattle.lop_tool.specs.Ended.{FileCause, BeginCause, StopCause}
+use Rattle.lop_tool.specs.{Input.input_named, Told.files_of, Told.at_rest, Steps.RefusesFirst, Steps.StopsFor}
+use Rattle.lop_tool.specs.{Steps.NoRefusal, Steps.FileCause, Steps.BeginCause, Reply.reads, Reply.IsFirstRefusal}
+use Rattle.lop_tool.specs.Ended.{StopCause, Faulted}
 
 -- what holds of the told files
 pub told_files : (P : List NamedFile → Type 0) (told : Option World) → IfSome told (λ w. P w.files) → IfSome (files_of told) P
@@ -32,20 +24,20 @@ pub told_both : (P R Q : List NamedFile → Type 0) (told : Option (List NamedFi
 told_both P R Q None f holds too = tt
 told_both P R Q (Some files) f holds too = f files holds too
 
-pub files-settled : (told : Option World) → files_of (settled told) ≡ files_of told
-files-settled None = refl
-files-settled (Some w) = refl
+pub files-at_rest : (told : Option World) → files_of (at_rest told) ≡ files_of told
+files-at_rest None = refl
+files-at_rest (Some w) = refl
 
 -- the files stay where all but the opened and the made file does
-pub same_files : (old mid : Option World) → settled mid ≡ settled old → files_of mid ≡ files_of old
-same_files old mid same = sym (files-settled mid) ∙ ap files_of same ∙ files-settled old
+pub same_files : (old mid : Option World) → at_rest mid ≡ at_rest old → files_of mid ≡ files_of old
+same_files old mid same = sym (files-at_rest mid) ∙ ap files_of same ∙ files-at_rest old
 
 -- what holds of the files later held before
-pub told_before : (P : List NamedFile → Type 0) (old mid : Option World) → settled mid ≡ settled old → IfSome mid (λ w. P w.files) → IfSome (files_of old) P
+pub told_before : (P : List NamedFile → Type 0) (old mid : Option World) → at_rest mid ≡ at_rest old → IfSome mid (λ w. P w.files) → IfSome (files_of old) P
 told_before P old mid same holds = subst (λ (t : Option (List NamedFile)). IfSome t P) (same_files old mid same) (told_files P mid holds)
 
 -- a file that isn't there later wasn't there before
-pub missing_before : (name : List ℕ) (old mid : Option World) → settled mid ≡ settled old → IsMissing mid name → IsMissing old name
+missing_before : (name : List ℕ) (old mid : Option World) → at_rest mid ≡ at_rest old → IsMissing mid name → IsMissing old name
 missing_before name old None same missing = absurd missing
 missing_before name None (Some v) same missing = absurd cc
 missing_before name (Some w) (Some v) same missing = by (same_files (Some w) (Some v) same)
@@ -53,10 +45,10 @@ missing_before name (Some w) (Some v) same missing = by (same_files (Some w) (So
     by : files_of (Some v) ≡ files_of (Some w) → file_named w.files name ≡ None
     by files = let same_list : v.files ≡ w.files = cc in ap (λ (fs : List NamedFile). file_named fs name) (sym same_list) ∙ missing
 
-pub any_first : {X : Type 0} (P : X → Type 0) (x : X) (xs : List X) → P x → Any P (x ∷ xs)
+any_first : {X : Type 0} (P : X → Type 0) (x : X) (xs : List X) → P x → Any P (x ∷ xs)
 any_first P x xs holds = (0, x, omega arith, refl, holds)
 
-pub any_second : {X : Type 0} (P : X → Type 0) (x y : X) (xs : List X) → P y → Any P (x ∷ y ∷ xs)
+any_second : {X : Type 0} (P : X → Type 0) (x y : X) (xs : List X) → P y → Any P (x ∷ y ∷ xs)
 any_second P x y xs holds = (1, y, omega arith, refl, holds)
 
 -- of two, neither
@@ -65,12 +57,28 @@ not_any P x y first second (zero, z, below, is, holds) = first (subst P (sym is)
 not_any P x y first second (suc zero, z, below, is, holds) = second (subst P (sym is) holds)
 not_any P x y first second (suc (suc k), z, below, is, holds) = absurd (omega (arith, below))
 
+-- one reason not to answer leads to another
+pub stops_map : (P Q : Refusal → Type 0) (F G : Type 0) (s : Stop) → ((r : Refusal) → P r → Q r) → (F → G) → StopsFor P F s → StopsFor Q G s
+stops_map P Q F G (stop.Refused refusal) refused fault cause = refused refusal cause
+stops_map P Q F G stop.Fault refused fault cause = fault cause
+stops_map P Q F G stop.Memory refused fault cause = tt
+
+pub err_map : {X : Type 0} (P Q : Refusal → Type 0) (F G : Type 0) (r : Result X Stop) → ((r : Refusal) → P r → Q r) → (F → G) → IfErr r (StopsFor P F) → IfErr r (StopsFor Q G)
+err_map P Q F G (Ok x) refused fault cause = tt
+err_map P Q F G (Err s) refused fault cause = stops_map P Q F G s refused fault cause
+
 -- the first file that a command reads wasn't read
 pub first_file : (command : Command) (file : List ℕ) (rest : List (List ℕ)) (old : Option World) (before now : ℕ) (s : Stop) → reads command ≡ file ∷ rest → FileCause file old before now s → StopCause command old before now s
-first_file command file rest old before now (stop.Refused refusal) is cause = absurd cause
-first_file command file rest old before now stop.Fault is (inl missing) = inl (subst (Any (IsMissing old)) (sym is) (any_first (IsMissing old) file rest missing))
-first_file command file rest old before now stop.Fault is (inr rose) = inr rose
-first_file command file rest old before now stop.Memory is cause = tt
+first_file command file rest old before now s is = stops_map NoRefusal (IsFirstRefusal command (files_of old)) (IsMissing old file ⊎ Rose before now) (Faulted (Some command) old before now) s (λ r none. absurd none) fault
+  where
+    fault : IsMissing old file ⊎ Rose before now → Faulted (Some command) old before now
+    fault (inl missing) = inl (subst (Any (IsMissing old)) (sym is) (any_first (IsMissing old) file rest missing))
+    fault (inr rose) = inr rose
+
+-- the second file that a command reads wasn't read
+pub second_file : (first second : List ℕ) (old mid : Option World) (before between now : ℕ) → at_rest mid ≡ at_rest old → before ≤ between → IsMissing mid second ⊎ Rose between now → Any (IsMissing old) (first ∷ second ∷ []) ⊎ Rose before now
+second_file first second old mid before between now same later (inl missing) = inl (any_second (IsMissing old) first second [] (missing_before second old mid same missing))
+second_file first second old mid before between now same later (inr rose) = inr (rose_from before between now later rose)
 
 -- what the first file is refused for
 pub first_refused : {X E : Type 0} (reading : List NamedFile → Option (Result X E)) (own : E → Refusal) (next : List NamedFile → X → Refusal → Type 0) (told : Option World) (e : E) → IfSome told (λ w. reading w.files ≡ Some (Err e))
@@ -84,7 +92,5 @@ input_refused format file next told e read = first_refused (λ files. input_name
 
 -- no certificate's file was begun
 pub not_begun : {X : Type 0} (command : Command) (old : Option World) (before between now : ℕ) (r : Result X Stop) → before ≤ between → IfErr r (BeginCause between now) → IfErr r (StopCause command old before now)
-not_begun command old before between now (Ok x) later cause = cause
-not_begun command old before between now (Err (stop.Refused refusal)) later cause = absurd cause
-not_begun command old before between now (Err stop.Fault) later cause = inr (rose_from before between now later cause)
-not_begun command old before between now (Err stop.Memory) later cause = tt
+not_begun command old before between now r later =
+    err_map NoRefusal (IsFirstRefusal command (files_of old)) (Rose between now) (Faulted (Some command) old before now) r (λ refusal none. absurd none) (λ rose. inr (rose_from before between now later rose))

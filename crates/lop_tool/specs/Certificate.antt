@@ -1,10 +1,7 @@
 -- The certificate of a search, in a file of its own.
 use Rattle.std.specs.Prelude.{◌≡◌, ℕ, ◌≤◌, List, [], Option, None, Some, IfSome, ⊤}
-use Rattle.lop_desk.specs.World.{World, NamedFile, with_finished, with_written}
-use Rattle.lop_core.specs.Core.{CoreFields}
-use Rattle.lop_certtext.specs.Tree.{tree_size}
-use Rattle.lop_certtext.specs.Certificate.{Certificate, certificate_text, IsTreeCertificate}
-use Rattle.lop_certwrite.specs.CoreTree.{IsCertificateOf}
+use Rattle.lop_tool.specs.Names.{World, NamedFile, with_finished, with_written, CoreFields, tree_size, Certificate}
+use Rattle.lop_tool.specs.Names.{certificate_text, IsTreeCertificate, IsCertificateOf}
 
 -- a file without bytes is being made under this name, if one is given
 abbrev pub HasBegun : Option (List ℕ) → Option World → Type 0

@@ -1,38 +1,21 @@
 -- What `check` promises.
-use Rattle.std.specs.Prelude.{◌≡◌, ◌⊎◌, ℕ, ℤ, Bool, List, Option, None, Some, IfSome, Ok, ⊤}
-use Rattle.lop_desk.specs.World.{World, NamedFile, file_named, unread}
-use Rattle.lop_desk.specs.Causes.{Rose}
-use Rattle.lop_desk.specs.Desk.{IsMissing}
-use Rattle.lop_model.specs.Matrix.{Matrix, IsUpperBound}
-use Rattle.lop_certtext.specs.Answer.{CheckAnswer, accepted, rejected, too_long, IsCheckAnswer}
+use Rattle.std.specs.Prelude.{◌≡◌, ◌⊎◌, ℕ, ℤ, Bool, List, Option, None, Some, IfSome, Ok, ⊤, [], ◌∷◌}
 use Rattle.lop_model.specs.Attained.{IsAttained}
-use Rattle.lop_report.specs.Lines.{is_optimal}
-use Rattle.lop_report.specs.AnswerText.{accepted_text}
-use Rattle.lop_words.specs.declared.command.Format.{Format}
-use Rattle.lop_tool.specs.declared.input.Instance.{Instance}
-use Rattle.lop_tool.specs.declared.refusal.Refusal.{Refusal}
-use Rattle.lop_tool.specs.declared.refusal.Refusal.TheVariants.{LongCertificate}
-use Rattle.lop_tool.specs.declared.rejection.Rejection.{Rejection}
-use Rattle.lop_tool.specs.declared.rejection.Rejection.TheVariants.{Certificate}
-use Rattle.lop_tool.specs.declared.status.Status.{Status}
+use Rattle.lop_tool.specs.Names.{World, NamedFile, file_named, unread, Rose, IsMissing, Matrix, IsUpperBound, CheckAnswer}
+use Rattle.lop_tool.specs.Names.{accepted, rejected, too_long, IsCheckAnswer, is_optimal, accepted_text, Format, Instance}
+use Rattle.lop_tool.specs.Names.{Refusal, LongCertificate, Input, Rejection, Status, Outcome, Accepted, Rejected, Stop}
 use Rattle.lop_tool.specs.declared.status.Status.TheVariants as status
-use Rattle.lop_tool.specs.declared.checking.Outcome.{Outcome}
-use Rattle.lop_tool.specs.declared.checking.Outcome.TheVariants.{Accepted, Rejected}
-use Rattle.lop_tool.specs.declared.stop.Stop.{Stop}
-use Rattle.lop_tool.specs.declared.stop.Stop.TheVariants as stop
+use Rattle.lop_tool.specs.declared.rejection.Rejection.TheVariants.{Certificate}
 use Rattle.lop_tool.specs.Status.{done_status}
 use Rattle.lop_tool.specs.Rejection.{rejection_line}
 use Rattle.lop_tool.specs.Input.{input_named}
-
--- this is the checker's answer for the bytes
-abbrev pub IsAnswerFor : Matrix → List ℕ → CheckAnswer → Type 0
-IsAnswerFor C bytes answer = IsCheckAnswer C bytes answer
+use Rattle.lop_tool.specs.Steps.{Steps, RefusesFirst, StopsFor}
 
 -- the checker's answer for the bytes under a name
 pub record GivesAnswer (C : Matrix) (name : List ℕ) (files : List NamedFile) (answer : CheckAnswer) : Type 0 where
   pub bytes : List ℕ
   pub there : file_named files name ≡ Some bytes
-  pub answer_is : IsAnswerFor C bytes answer
+  pub answer_is : IsCheckAnswer C bytes answer
 
 -- the file is accepted with this input, and this is the checker's answer for the certificate
 pub record IsChecked (format : Format) (file cert : List ℕ) (files : List NamedFile) (input : Instance) (answer : CheckAnswer) : Type 0 where
@@ -65,6 +48,16 @@ pub record IsLongCertificate (C : Matrix) (cert : List ℕ) (files : List NamedF
   pub refusal_is : refusal ≡ LongCertificate
   pub given : GivesAnswer C cert files too_long
 
+-- it reads two files: the certificate may be too long, or rejected
+abbrev pub check_steps : Format → List ℕ → List ℕ → Steps
+check_steps format file cert = record {
+  reads = file ∷ cert ∷ [];
+  refuses = λ told refusal. IfSome told (λ files. RefusesFirst (input_named format files file) Input
+      (λ input. IsLongCertificate input.weights cert files) refusal);
+  rejects = λ told rejection. IfSome told (λ files. RejectsCertificate format file cert files rejection);
+  does = Accepts format file cert;
+}
+
 -- The reply.
 
 -- the checker's answer that an outcome stands for
@@ -87,18 +80,15 @@ IsBounded C (Rejected rejection) = ⊤
 
 -- what the bytes that are still to be read come to, or why they come to nothing
 abbrev pub AnswersRest : Matrix → Option World → CheckAnswer → Type 0
-AnswersRest C told answer = IfSome told (λ w. IsAnswerFor C (unread w) answer)
+AnswersRest C told answer = IfSome told (λ w. IsCheckAnswer C (unread w) answer)
 
 abbrev pub RestStop : Matrix → Option World → ℕ → ℕ → Stop → Type 0
-RestStop C told before now (stop.Refused refusal) = (refusal ≡ LongCertificate) × AnswersRest C told too_long
-RestStop C told before now stop.Fault = Rose before now
-RestStop C told before now stop.Memory = ⊤
+RestStop C told before now = StopsFor (λ refusal. (refusal ≡ LongCertificate) × AnswersRest C told too_long) (Rose before now)
 
 -- what the certificate under a name comes to, or why it comes to nothing
 abbrev pub AnswersNamed : Matrix → List ℕ → Option World → CheckAnswer → Type 0
 AnswersNamed C name told answer = IfSome told (λ w. GivesAnswer C name w.files answer)
 
 abbrev pub NamedStop : Matrix → List ℕ → Option World → ℕ → ℕ → Stop → Type 0
-NamedStop C name told before now (stop.Refused refusal) = (refusal ≡ LongCertificate) × AnswersNamed C name told too_long
-NamedStop C name told before now stop.Fault = IsMissing told name ⊎ Rose before now
-NamedStop C name told before now stop.Memory = ⊤
+NamedStop C name told before now =
+    StopsFor (λ refusal. (refusal ≡ LongCertificate) × AnswersNamed C name told too_long) (IsMissing told name ⊎ Rose before now)

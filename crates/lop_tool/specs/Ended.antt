@@ -1,21 +1,14 @@
 -- How a run ends.
-use Rattle.std.specs.Prelude.{◌≡◌, ◌⊎◌, ℕ, List, [], take, Option, None, Some, IfSome, Result, MatchResult, ⊤}
+use Rattle.std.specs.Prelude.{◌≡◌, ◌⊎◌, ℕ, List, [], take, Option, None, Some, Result, MatchResult}
 use Rattle.std.specs.List.{Any}
-use Rattle.lop_desk.specs.World.{World, NamedFile}
-use Rattle.lop_desk.specs.Causes.{Rose}
-use Rattle.lop_desk.specs.Desk.{IsMissing}
-use Rattle.lop_words.specs.declared.command.Command.{Command}
-use Rattle.lop_tool.specs.declared.status.Status.{Status}
+use Rattle.lop_tool.specs.Names.{World, NamedFile, Rose, IsMissing, Command, Status, Stop}
 use Rattle.lop_tool.specs.declared.status.Status.TheVariants as status
-use Rattle.lop_tool.specs.declared.stop.Stop.{Stop}
 use Rattle.lop_tool.specs.declared.stop.Stop.TheVariants as stop
 use Rattle.lop_tool.specs.Status.{number}
-use Rattle.lop_tool.specs.Told.{files_of, settled, with_file, Leaves, LeavesAll}
+use Rattle.lop_tool.specs.Told.{files_of, at_rest, with_file, Leaves, LeavesAll}
 use Rattle.lop_tool.specs.Refusal.{refusal_line}
-use Rattle.lop_tool.specs.Steps.{reads, RefusesFirst, NoMore, IsFirstRefusal}
-use Rattle.lop_tool.specs.declared.refusal.Refusal.TheVariants.{Order}
-use Rattle.lop_tool.specs.Input.{order_named}
-use Rattle.lop_tool.specs.Reply.{IsReply}
+use Rattle.lop_tool.specs.Steps.{StopsFor}
+use Rattle.lop_tool.specs.Reply.{reads, IsFirstRefusal, IsReply}
 
 -- the files that are read
 abbrev pub reads_of : Option Command → List (List ℕ)
@@ -26,43 +19,43 @@ reads_of (Some command) = reads command
 abbrev pub Faulted : Option Command → Option World → ℕ → ℕ → Type 0
 Faulted command old before now = Any (IsMissing old) (reads_of command) ⊎ Rose before now
 
--- how a run ended: with a reply, with a part of one, by a fault before it, or for want of memory
+-- a right reply was delivered: the number says its status, and its file stands, if it leaves one, and its text was printed
+pub record IsReplied (command : Option Command) (old new : Option World) (n : ℕ) : Type 0 where
+  pub answer : Status
+  pub text : List ℕ
+  pub left : Option NamedFile
+  pub right : IsReply (files_of old) command answer text left
+  pub number_is : n ≡ number answer
+  pub leaves : Leaves text left old new
+
+-- the file of a right reply stands, if it leaves one, and the front of its text was printed
+pub record IsCutOff (command : Option Command) (old new : Option World) : Type 0 where
+  pub answer : Status
+  pub text : List ℕ
+  pub left : Option NamedFile
+  pub right : IsReply (files_of old) command answer text left
+  pub count : ℕ
+  pub leaves : Leaves (take count text) left old new
+
+-- what stands after a fault
+abbrev pub LeavesAtMost : Option Command → Option World → Option World → Type 0
+LeavesAtMost command old new = LeavesAll old new ⊎ IsCutOff command old new
+
+-- how a run ended: with a reply, by a fault before it or in its text, or for want of memory
 pub data Ended (command : Option Command) (old new : Option World) (before now n : ℕ) : Type 0 where
-  replied : (s : Status) (text : List ℕ) (left : Option NamedFile) → IsReply (files_of old) command s text left → n ≡ number s → Leaves text left old new → Ended command old new before now n
-  cut_off : (s : Status) (text : List ℕ) (left : Option NamedFile) (k : ℕ)
-      → IsReply (files_of old) command s text left → n ≡ number status.Fault → Faulted command old before now → Leaves (take k text) left old new → Ended command old new before now n
-  faulted : n ≡ number status.Fault → Faulted command old before now → LeavesAll old new → Ended command old new before now n
+  replied : IsReplied command old new n → Ended command old new before now n
+  faulted : n ≡ number status.Fault → Faulted command old before now → LeavesAtMost command old new → Ended command old new before now n
   lacked : n ≡ number status.Memory → LeavesAll old new → Ended command old new before now n
 
 -- The steps of a run.
 
--- why a file wasn't read: it isn't there, or the count of faults rose; memory may always be wanting
-abbrev pub FileCause : List ℕ → Option World → ℕ → ℕ → Stop → Type 0
-FileCause file old before now (stop.Refused refusal) = ⊥
-FileCause file old before now stop.Fault = IsMissing old file ⊎ Rose before now
-FileCause file old before now stop.Memory = ⊤
-
--- why there is no order of n objects: the one under the name is refused, or it wasn't read
-abbrev pub OrderStop : ℕ → List ℕ → Option World → ℕ → ℕ → Stop → Type 0
-OrderStop n name old before now (stop.Refused refusal) = IfSome old (λ w. RefusesFirst (order_named n w.files name) Order NoMore refusal)
-OrderStop n name old before now stop.Fault = IsMissing old name ⊎ Rose before now
-OrderStop n name old before now stop.Memory = ⊤
-
--- why a file wasn't begun
-abbrev pub BeginCause : ℕ → ℕ → Stop → Type 0
-BeginCause before now (stop.Refused refusal) = ⊥
-BeginCause before now stop.Fault = Rose before now
-BeginCause before now stop.Memory = ⊤
-
 -- why a command has no reply
 abbrev pub StopCause : Command → Option World → ℕ → ℕ → Stop → Type 0
-StopCause command old before now (stop.Refused refusal) = IsFirstRefusal command (files_of old) refusal
-StopCause command old before now stop.Fault = Faulted (Some command) old before now
-StopCause command old before now stop.Memory = ⊤
+StopCause command old before now = StopsFor (IsFirstRefusal command (files_of old)) (Faulted (Some command) old before now)
 
 -- Ok leaves such a file; after an Err the files are as before
 abbrev pub LeavesFile : {E : Type 0} → (Option NamedFile → Type 0) → Option World → Option World → Result (Unit {0}) E → Type 0
-LeavesFile leaves old new result = MatchResult result (λ _. (left : Option NamedFile) × leaves left × (settled new ≡ with_file left (settled old))) (λ _. LeavesAll old new)
+LeavesFile leaves old new result = MatchResult result (λ _. (left : Option NamedFile) × leaves left × (at_rest new ≡ with_file left (at_rest old))) (λ _. LeavesAll old new)
 
 -- how a reply was delivered: whole, cut off by a fault, or not at all for a fault
 pub data Delivered (leaves : Option NamedFile → Type 0) (text : List ℕ) (answer : Status) (old new : Option World) (before now : ℕ) (ends : Status) : Type 0 where

@@ -1,12 +1,9 @@
 -- What `gen` promises.
-use Rattle.std.specs.Prelude.{◌≡◌, ℕ, Bool, List, Option, None}
-use Rattle.lop_desk.specs.World.{NamedFile}
-use Rattle.lop_core.specs.Core.{CoreFields}
+use Rattle.std.specs.Prelude.{◌≡◌, ℕ, Bool, List, Option, None, []}
 use Rattle.lop_gen.specs.Generated.{generated_matrix}
-use Rattle.lop_report.specs.Lines.{is_optimal}
-use Rattle.lop_report.specs.AnswerText.{gen_text}
-use Rattle.lop_tool.specs.declared.generation.Generation.{Generation}
+use Rattle.lop_tool.specs.Names.{NamedFile, CoreFields, is_optimal, gen_text, Generation}
 use Rattle.lop_tool.specs.Search.{Found, found_of, IsSearchOf}
+use Rattle.lop_tool.specs.Steps.{Steps}
 
 -- this was found in the weights that the seed gives with ten nodes at most, and the text tells its numbers
 pub record Generates (seed n : ℕ) (optimal : Bool) (text : List ℕ) (left : Option NamedFile) : Type 0 where
@@ -16,6 +13,10 @@ pub record Generates (seed n : ℕ) (optimal : Bool) (text : List ℕ) (left : O
   pub optimal_is : optimal ≡ is_optimal found.value found.bound
   pub text_is : text ≡ gen_text seed (generated_matrix seed n) found.value found.bound found.nodes
   pub left_is : left ≡ None
+
+-- it reads no file
+abbrev pub gen_steps : ℕ → ℕ → Steps
+gen_steps seed n = record { reads = []; refuses = λ told refusal. ⊥; rejects = λ told rejection. ⊥; does = λ told. Generates seed n }
 
 -- the reply: its text, and whether value and bound are the same
 abbrev pub generation_text : Generation → List ℕ

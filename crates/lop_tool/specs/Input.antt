@@ -1,24 +1,15 @@
 -- What an input file means.
 use Rattle.std.specs.Prelude.{◌≡◌, ℕ, ◌^◌, nat_lt, List, length, Option, None, Some, IfSome, Result, Ok, Err, if◌then◌else◌}
-use Rattle.lop_desk.specs.World.{NamedFile, file_named}
-use Rattle.lop_model.specs.Matrix.{Matrix}
 use Rattle.lop_lolib.specs.declared.lolib.LolibFile.{LolibFile}
-use Rattle.lop_lolib.specs.declared.refusal.LolibRefusal.{LolibRefusal}
 use Rattle.lop_lolib.specs.Reading.{lolib_reading}
-use Rattle.lop_lolib.specs.declared.order.OrderRefusal.{OrderRefusal}
 use Rattle.lop_lolib.specs.OrderReading.{order_reading}
-use Rattle.lop_tool.specs.declared.refusal.OrderFileRefusal.{OrderFileRefusal}
-use Rattle.lop_tool.specs.declared.refusal.OrderFileRefusal.TheVariants.{TooLong as LongOrder, Order}
 use Rattle.lop_preflib.specs.Profile.{ProfileFields}
-use Rattle.lop_preflib.specs.declared.refusal.PrefRefusal.{PrefRefusal}
 use Rattle.lop_preflib.specs.Reading.{preflib_reading}
-use Rattle.lop_profile.specs.declared.profile.ProfileFault.{ProfileFault}
 use Rattle.lop_profile.specs.Reading.{profile_reading}
-use Rattle.lop_words.specs.declared.command.Format.{Format}
+use Rattle.lop_tool.specs.Names.{NamedFile, file_named, Matrix, LolibRefusal, OrderRefusal, OrderFileRefusal, PrefRefusal}
+use Rattle.lop_tool.specs.Names.{ProfileFault, Format, Instance, InputRefusal, TooLong, Lolib, Preflib, Profile}
 use Rattle.lop_words.specs.declared.command.Format.TheVariants as format
-use Rattle.lop_tool.specs.declared.input.Instance.{Instance}
-use Rattle.lop_tool.specs.declared.refusal.InputRefusal.{InputRefusal}
-use Rattle.lop_tool.specs.declared.refusal.InputRefusal.TheVariants.{TooLong, Lolib, Preflib, Profile}
+use Rattle.lop_tool.specs.declared.refusal.OrderFileRefusal.TheVariants.{TooLong as LongOrder, Order}
 
 -- a matrix is an instance without a profile
 abbrev pub matrix_instance : Result LolibFile LolibRefusal → Result Instance InputRefusal

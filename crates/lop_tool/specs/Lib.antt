@@ -1,3 +1,4 @@
+pub mod Names
 pub mod Status
 pub mod Told
 pub mod Refusal

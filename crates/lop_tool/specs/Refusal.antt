@@ -1,20 +1,13 @@
 -- The line of a refusal.
 use Rattle.std.specs.Prelude.{ℕ, List, [], ◌++◌, codes, decimal}
 use Rattle.std.specs.Fmt.{signed_decimal}
-use Rattle.lop_lolib.specs.declared.refusal.LolibRefusal.{LolibRefusal}
 use Rattle.lop_lolib.specs.declared.refusal.LolibRefusal.TheVariants.{Empty, BadSize, SizeRange, BadEntry, TooWide, Short, TooHeavy, Memory}
-use Rattle.lop_lolib.specs.declared.order.OrderRefusal.{OrderRefusal}
+use Rattle.lop_tool.specs.Names.{LolibRefusal, OrderRefusal, PrefRefusal, ProfileFault, Refusal, Input, Order}
+use Rattle.lop_tool.specs.Names.{LongCertificate, OrderFileRefusal, InputRefusal, TooLong, Lolib, Preflib, Profile}
 use Rattle.lop_lolib.specs.declared.order.OrderRefusal.TheVariants as order
-use Rattle.lop_preflib.specs.declared.refusal.PrefRefusal.{PrefRefusal}
 use Rattle.lop_preflib.specs.declared.refusal.PrefRefusal.TheVariants as preflib
-use Rattle.lop_profile.specs.declared.profile.ProfileFault.{ProfileFault}
 use Rattle.lop_profile.specs.declared.profile.ProfileFault.TheVariants as profile
-use Rattle.lop_tool.specs.declared.refusal.Refusal.{Refusal}
-use Rattle.lop_tool.specs.declared.refusal.Refusal.TheVariants.{Input, Order, LongCertificate}
-use Rattle.lop_tool.specs.declared.refusal.OrderFileRefusal.{OrderFileRefusal}
 use Rattle.lop_tool.specs.declared.refusal.OrderFileRefusal.TheVariants as file
-use Rattle.lop_tool.specs.declared.refusal.InputRefusal.{InputRefusal}
-use Rattle.lop_tool.specs.declared.refusal.InputRefusal.TheVariants.{TooLong, Lolib, Preflib, Profile}
 
 -- no text is refused for want of memory
 abbrev pub lolib_refusal_words : LolibRefusal → List ℕ

@@ -1,10 +1,10 @@
 -- The line of a rejected certificate, as bytes.
 use Rattle.std.specs.Prelude.{ℕ, List, ◌++◌, codes, decimal, ℤ}
 use Rattle.std.specs.Fmt.{signed_decimal}
-use Rattle.lop_tool.specs.declared.rejection.Rejection.{Rejection}
-use Rattle.lop_tool.specs.declared.rejection.Rejection.TheVariants.{Certificate}
 use Rattle.lop_certtext.specs.declared.reason.Reason.{Reason}
 use Rattle.lop_certtext.specs.declared.reason.Reason.TheVariants.{Short, Spelling, Size, OrderLine, Value, Cut, SplitLine, Leaf, High, Tail}
+use Rattle.lop_tool.specs.declared.rejection.Rejection.{Rejection}
+use Rattle.lop_tool.specs.declared.rejection.Rejection.TheVariants.{Certificate}
 
 -- a word and the two numbers that differ
 abbrev pub two_numbers : List ℕ → ℤ → ℤ → List ℕ

@@ -1,35 +1,47 @@
--- What a right reply to a command is.
+-- The steps of the commands, and what a right reply to one is.
 use Rattle.std.specs.Prelude.{◌≡◌, Bool, List, ℕ, Option, None, Some, IfSome}
-use Rattle.lop_desk.specs.World.{NamedFile}
-use Rattle.lop_words.specs.declared.command.Command.{Command}
-use Rattle.lop_words.specs.declared.command.Command.TheVariants.{Solve, Check, Value, Gen}
-use Rattle.lop_words.specs.declared.command.Format.{Format}
-use Rattle.lop_tool.specs.declared.status.Status.{Status}
+use Rattle.lop_tool.specs.Names.{NamedFile, Command, Solve, Check, Value, Gen, Status, Refusal, Rejection}
 use Rattle.lop_tool.specs.declared.status.Status.TheVariants as status
-use Rattle.lop_tool.specs.declared.refusal.Refusal.{Refusal}
-use Rattle.lop_tool.specs.declared.rejection.Rejection.{Rejection}
 use Rattle.lop_tool.specs.Status.{done_status}
 use Rattle.lop_tool.specs.Refusal.{refusal_line, words_line}
 use Rattle.lop_tool.specs.Rejection.{rejection_line}
-use Rattle.lop_tool.specs.Steps.{IsFirstRefusal, IsRejection, IsAccepted}
-use Rattle.lop_tool.specs.Solve.{Solves}
-use Rattle.lop_tool.specs.Check.{Accepts}
-use Rattle.lop_tool.specs.Value.{Weighs}
-use Rattle.lop_tool.specs.Gen.{Generates}
+use Rattle.lop_tool.specs.Steps.{Steps}
+use Rattle.lop_tool.specs.Solve.{solve_steps}
+use Rattle.lop_tool.specs.Check.{check_steps}
+use Rattle.lop_tool.specs.Value.{value_steps}
+use Rattle.lop_tool.specs.Gen.{gen_steps}
+
+-- the steps of each command, and with them its promise: the one line for a command
+abbrev pub steps_of : Command → Steps
+steps_of (Solve format file workers nodes cert) = solve_steps format file nodes cert
+steps_of (Check format file cert) = check_steps format file cert
+steps_of (Value format file order_file) = value_steps format file order_file
+steps_of (Gen seed n) = gen_steps seed n
+
+-- the files that a command names for reading
+abbrev pub reads : Command → List (List ℕ)
+reads command = (steps_of command).reads
+
+-- the first input of a command that is refused, in the order of its steps
+abbrev pub IsFirstRefusal : Command → Option (List NamedFile) → Refusal → Type 0
+IsFirstRefusal command = (steps_of command).refuses
+
+-- the certificate that a command checks is rejected for this
+abbrev pub IsRejection : Command → Option (List NamedFile) → Rejection → Type 0
+IsRejection command = (steps_of command).rejects
+
+-- of the told files, no input is refused and no certificate rejected
+pub record IsAccepted (command : Command) (files : List NamedFile) : Type 0 where
+  pub unrefused : (refusal : Refusal) → ¬ (IsFirstRefusal command (Some files) refusal)
+  pub unrejected : (rejection : Rejection) → ¬ (IsRejection command (Some files) rejection)
 
 -- a command was done: with value and bound the same or not, with this text, and with this file left, if there is one
-pub data IsDone (told : Option (List NamedFile)) : Command → Bool → List ℕ → Option NamedFile → Type 0 where
-  solved : {format : Format} {file : List ℕ} {workers nodes : ℕ} {cert : Option (List ℕ)} {optimal : Bool} {text : List ℕ} {left : Option NamedFile}
-      → Solves format file nodes cert told optimal text left → IsDone told (Solve format file workers nodes cert) optimal text left
-  accepted : {format : Format} {file cert : List ℕ} {optimal : Bool} {text : List ℕ} {left : Option NamedFile}
-      → Accepts format file cert told optimal text left → IsDone told (Check format file cert) optimal text left
-  weighed : {format : Format} {file order_file : List ℕ} {optimal : Bool} {text : List ℕ} {left : Option NamedFile}
-      → Weighs format file order_file told optimal text left → IsDone told (Value format file order_file) optimal text left
-  generated : {seed n : ℕ} {optimal : Bool} {text : List ℕ} {left : Option NamedFile} → Generates seed n optimal text left → IsDone told (Gen seed n) optimal text left
+abbrev pub IsDone : Option (List NamedFile) → Command → Bool → List ℕ → Option NamedFile → Type 0
+IsDone told command = (steps_of command).does told
 
 -- a right reply: its status, its text, and the file that is left, if there is one
 pub data IsReply (told : Option (List NamedFile)) : Option Command → Status → List ℕ → Option NamedFile → Type 0 where
-  done : {command : Command} {optimal : Bool} {text : List ℕ} {left : Option NamedFile}
+  done : {command : Command} {text : List ℕ} {left : Option NamedFile} (optimal : Bool)
       → IfSome told (IsAccepted command) → IsDone told command optimal text left → IsReply told (Some command) (done_status optimal) text left
   rejected : {command : Command} {text : List ℕ} (rejection : Rejection) → IsRejection command told rejection → text ≡ rejection_line rejection → IsReply told (Some command) status.Rejected text None
   refused_input : {command : Command} {text : List ℕ} (refusal : Refusal) → IsFirstRefusal command told refusal → text ≡ refusal_line refusal → IsReply told (Some command) status.Refused text None

@@ -1,10 +1,6 @@
 -- What a `solve` and then a `check` promise.
 use Rattle.std.specs.Prelude.{◌≡◌, ◌⊎◌, ℕ, ◌≤◌, List, Option, Some, IfSome}
-use Rattle.lop_desk.specs.World.{World}
-use Rattle.lop_desk.specs.Causes.{Rose}
-use Rattle.lop_words.specs.declared.command.Command.{Command}
-use Rattle.lop_words.specs.declared.command.Command.TheVariants.{Solve, Check}
-use Rattle.lop_words.specs.declared.command.Format.{Format}
+use Rattle.lop_tool.specs.Names.{World, Rose, Command, Solve, Check, Format}
 use Rattle.lop_tool.specs.declared.status.Status.TheVariants as status
 use Rattle.lop_tool.specs.Status.{number, IsDoneNumber}
 use Rattle.lop_tool.specs.Ended.{Ended}

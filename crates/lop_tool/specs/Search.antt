@@ -1,14 +1,8 @@
 -- What a search found.
 use Rattle.std.specs.Prelude.{◌≡◌, ℕ, ◌+◌, ◌*◌, ◌≤◌, List, [], ℤ, ◌≤ℤ◌, ◌<ℤ◌}
-use Rattle.lop_model.specs.Order.{IsOrder}
-use Rattle.lop_model.specs.Matrix.{Matrix, IsWeights, weight, IsUpperBound}
-use Rattle.lop_leaf.specs.Packing.{packing_bound}
-use Rattle.lop_climb.specs.StartOrder.{IsBeckerOrder}
-use Rattle.lop_climb.specs.Insertion.{IsClimbedFrom}
 use Rattle.lop_core.specs.AllOrders.{factorial}
-use Rattle.lop_core.specs.Machine.{state_bound}
-use Rattle.lop_core.specs.Core.{CoreFields, HasHistory}
-use Rattle.lop_core.specs.Outcome.{IsOutcome, IsFinished}
+use Rattle.lop_tool.specs.Names.{IsOrder, Matrix, IsWeights, weight, IsUpperBound, packing_bound, IsBeckerOrder}
+use Rattle.lop_tool.specs.Names.{IsClimbedFrom, state_bound, Problem, CoreFields, HasHistory, IsOutcome, IsFinished}
 
 -- an order, its value, a bound, and how many nodes were evaluated
 pub record Found : Type 0 where
@@ -46,12 +40,12 @@ pub record IsSearched (C : Matrix) (budget : ℕ) (x : Found) : Type 0 where
   pub climbed : IsClimbed C x.value
   pub packed : x.bound ≤ℤ packing_bound C []
 
--- a core that may be searched: its first order weighs at least as much as the start order and what a climb leads to
-pub record IsPrepared (core : CoreFields) : Type 0 where
-  pub positive : 1 ≤ core.problem.budget
-  pub weights : IsWeights core.problem.weights
-  pub from_start : (t : List ℕ) → IsBeckerOrder core.problem.weights t → weight core.problem.weights t ≤ℤ core.problem.start
-  pub climbed : IsClimbed core.problem.weights core.problem.start
+-- a problem that may be searched: its start is at least the weight of the start order and of what a climb leads to
+pub record IsPrepared (problem : Problem) : Type 0 where
+  pub positive : 1 ≤ problem.budget
+  pub weights : IsWeights problem.weights
+  pub from_start : (t : List ℕ) → IsBeckerOrder problem.weights t → weight problem.weights t ≤ℤ problem.start
+  pub climbed : IsClimbed problem.weights problem.start
 
 -- these were found in C with this budget, as this core shows: its journal is lawful and its run finished
 pub record IsSearchOf (C : Matrix) (budget : ℕ) (x : Found) (core : CoreFields) : Type 0 where

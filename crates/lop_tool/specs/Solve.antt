@@ -1,15 +1,10 @@
 -- What `solve` promises.
-use Rattle.std.specs.Prelude.{◌≡◌, ◌≤◌, ◌^◌, ℕ, Bool, List, length, unsigned_abs, Option, Some, IfSome, Ok}
-use Rattle.lop_desk.specs.World.{NamedFile}
-use Rattle.lop_core.specs.Core.{CoreFields}
-use Rattle.lop_report.specs.Lines.{is_optimal}
-use Rattle.lop_report.specs.AnswerText.{solve_text}
-use Rattle.lop_words.specs.declared.command.Format.{Format}
-use Rattle.lop_tool.specs.declared.input.Instance.{Instance}
-use Rattle.lop_tool.specs.declared.solve.Solution.{Solution}
+use Rattle.std.specs.Prelude.{◌≡◌, ◌≤◌, ◌^◌, ℕ, Bool, List, length, unsigned_abs, Option, Some, IfSome, Ok, [], ◌∷◌}
+use Rattle.lop_tool.specs.Names.{NamedFile, CoreFields, is_optimal, solve_text, Format, Instance, Solution, Input}
 use Rattle.lop_tool.specs.Input.{input_named, IsOfSize}
 use Rattle.lop_tool.specs.Search.{Found, found_of, IsSearchOf}
 use Rattle.lop_tool.specs.Certificate.{LeavesCertificate}
+use Rattle.lop_tool.specs.Steps.{Steps, RefusesFirst, NoMore}
 
 -- the text of what was found in an instance
 abbrev pub found_text : Instance → Found → List ℕ
@@ -26,6 +21,15 @@ pub record Solves (format : Format) (file : List ℕ) (nodes : ℕ) (cert : Opti
   pub optimal_is : optimal ≡ is_optimal found.value found.bound
   pub text_is : text ≡ found_text input found
   pub left_is : LeavesCertificate cert core left
+
+-- it reads one file
+abbrev pub solve_steps : Format → List ℕ → ℕ → Option (List ℕ) → Steps
+solve_steps format file nodes cert = record {
+  reads = file ∷ [];
+  refuses = λ told refusal. IfSome told (λ files. RefusesFirst (input_named format files file) Input NoMore refusal);
+  rejects = λ told rejection. ⊥;
+  does = Solves format file nodes cert;
+}
 
 -- the reply: its text, and whether value and bound are the same
 abbrev pub solution_text : Solution → List ℕ

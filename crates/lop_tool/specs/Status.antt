@@ -1,7 +1,7 @@
 -- How a run ends.
 use Rattle.std.specs.Prelude.{◌≡◌, ◌⊎◌, ℕ, Bool, true, false}
-use Rattle.lop_tool.specs.declared.status.Status.{Status}
 use Rattle.lop_tool.specs.declared.status.Status.TheVariants as status
+use Rattle.lop_tool.specs.declared.status.Status.{Status}
 
 -- the number that the program ends with
 abbrev pub number : Status → ℕ

@@ -1,20 +1,7 @@
--- The steps of a command: what it reads, what is refused first, and what is rejected.
-use Rattle.std.specs.Prelude.{◌≡◌, List, [], ◌∷◌, ℕ, Option, None, Some, IfSome, Result, Ok, Err}
-use Rattle.lop_desk.specs.World.{NamedFile}
-use Rattle.lop_words.specs.declared.command.Command.{Command}
-use Rattle.lop_words.specs.declared.command.Command.TheVariants.{Solve, Check, Value, Gen}
-use Rattle.lop_tool.specs.declared.refusal.Refusal.{Refusal}
-use Rattle.lop_tool.specs.declared.refusal.Refusal.TheVariants.{Input, Order}
-use Rattle.lop_tool.specs.declared.rejection.Rejection.{Rejection}
-use Rattle.lop_tool.specs.Input.{input_named, order_named}
-use Rattle.lop_tool.specs.Check.{IsLongCertificate, RejectsCertificate}
-
--- the files that a command names for reading
-abbrev pub reads : Command → List (List ℕ)
-reads (Solve format file workers nodes cert) = file ∷ []
-reads (Check format file cert) = file ∷ cert ∷ []
-reads (Value format file order_file) = file ∷ order_file ∷ []
-reads (Gen seed n) = []
+-- The steps of a command: what it reads, what is refused first, what is rejected, and what it does.
+use Rattle.std.specs.Prelude.{Bool, List, ℕ, Option, None, Some, Result, Ok, Err, ◌≡◌, ◌⊎◌, ⊤}
+use Rattle.lop_tool.specs.Names.{NamedFile, World, Refusal, Rejection, Rose, IsMissing, Stop}
+use Rattle.lop_tool.specs.declared.stop.Stop.TheVariants as stop
 
 -- the first refusal, where a file that was read in this way comes first: its own, or that of what follows where it is
 -- accepted; there is none where the file isn't there
@@ -27,20 +14,31 @@ RefusesFirst (Some (Ok x)) own next refusal = next x refusal
 abbrev pub NoMore : {X : Type 0} → X → Refusal → Type 0
 NoMore x refusal = ⊥
 
--- the first input of a command that is refused, in the order of its steps
-abbrev pub IsFirstRefusal : Command → Option (List NamedFile) → Refusal → Type 0
-IsFirstRefusal (Solve format file workers nodes cert) told refusal = IfSome told (λ files. RefusesFirst (input_named format files file) Input NoMore refusal)
-IsFirstRefusal (Check format file cert) told refusal = IfSome told (λ files. RefusesFirst (input_named format files file) Input (λ input. IsLongCertificate input.weights cert files) refusal)
-IsFirstRefusal (Value format file order_file) told refusal =
-    IfSome told (λ files. RefusesFirst (input_named format files file) Input (λ input. RefusesFirst (order_named input.weights.size files order_file) Order NoMore) refusal)
-IsFirstRefusal (Gen seed n) told refusal = ⊥
+-- why a step has no answer: for such a refusal, or by a fault that comes from this; memory may always be wanting
+abbrev pub StopsFor : (Refusal → Type 0) → Type 0 → Stop → Type 0
+StopsFor refused fault (stop.Refused refusal) = refused refusal
+StopsFor refused fault stop.Fault = fault
+StopsFor refused fault stop.Memory = ⊤
 
--- the certificate that a command checks is rejected for this
-abbrev pub IsRejection : Command → Option (List NamedFile) → Rejection → Type 0
-IsRejection (Check format file cert) told rejection = IfSome told (λ files. RejectsCertificate format file cert files rejection)
-IsRejection other told rejection = ⊥
+-- nothing is refused
+abbrev pub NoRefusal : Refusal → Type 0
+NoRefusal refusal = ⊥
 
--- of the told files, no input is refused and no certificate rejected
-pub record IsAccepted (command : Command) (files : List NamedFile) : Type 0 where
-  pub unrefused : (refusal : Refusal) → ¬ (IsFirstRefusal command (Some files) refusal)
-  pub unrejected : (rejection : Rejection) → ¬ (IsRejection command (Some files) rejection)
+-- why a file wasn't read: it isn't there, or the count of faults rose
+abbrev pub FileCause : List ℕ → Option World → ℕ → ℕ → Stop → Type 0
+FileCause file old before now = StopsFor NoRefusal (IsMissing old file ⊎ Rose before now)
+
+-- why a file wasn't begun
+abbrev pub BeginCause : ℕ → ℕ → Stop → Type 0
+BeginCause before now = StopsFor NoRefusal (Rose before now)
+
+-- the steps of a command
+pub record Steps : Type 1 where
+  -- the files that it names for reading
+  pub reads : List (List ℕ)
+  -- the first of its inputs that is refused, in the order of its steps
+  pub refuses : Option (List NamedFile) → Refusal → Type 0
+  -- the certificate that it checks is rejected for this
+  pub rejects : Option (List NamedFile) → Rejection → Type 0
+  -- it was done: with value and bound the same or not, with this text, and with this file left, if there is one
+  pub does : Option (List NamedFile) → Bool → List ℕ → Option NamedFile → Type 0

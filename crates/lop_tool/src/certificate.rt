@@ -1,10 +1,11 @@
 // The certificate of a search, in a file of its own.
-ghost use Rattle.std.specs.Prelude.{◌≡◌, ◌≤◌, MatchResult, IfOk, IfErr};
+ghost use Rattle.std.specs.Prelude.{◌≤◌, MatchResult, IfOk, IfErr};
 ghost use Rattle.lop_desk.specs.Causes.{HasCause};
 ghost use Rattle.lop_desk.specs.Desk.{IsMaking};
-ghost use Rattle.lop_tool.specs.Told.{settled, LeavesAll};
+ghost use Rattle.lop_tool.specs.Told.{LeavesAll};
 ghost use Rattle.lop_tool.specs.Certificate.{HasBegun, WritesCertificate, LeavesCertificate};
-ghost use Rattle.lop_tool.specs.Ended.{LeavesFile, BeginCause};
+ghost use Rattle.lop_tool.specs.Steps.{BeginCause};
+ghost use Rattle.lop_tool.specs.Ended.{LeavesFile};
 
 use crate::stop::Stop;
 use lop_certwrite::write_certificate;
@@ -15,7 +16,7 @@ use lop_words::NameWord;
 /// Begins the file under the name, if there is one.
 pub fn begin_certificate<D: Desk>(cert: &Option<NameWord>, desk: &mut D) -> Result<(), Stop>
     ensures begun { IfOk result (λ _. HasBegun cert.now (D.told desk.new)) }
-    ensures files { settled (D.told desk.new) ≡ settled (D.told desk.old) }
+    ensures files { LeavesAll (D.told desk.old) (D.told desk.new) }
     ensures later { D.faults desk.old ≤ D.faults desk.new }
     ensures cause { IfErr result (BeginCause (D.faults desk.old) (D.faults desk.new)) }
 {

@@ -6,8 +6,8 @@ ghost use Rattle.lop_tool.specs.declared.status.Status.TheVariants as status;
 ghost use Rattle.lop_tool.specs.Status.{number};
 ghost use Rattle.lop_tool.specs.Refusal.{words_line};
 ghost use Rattle.lop_tool.specs.Told.{PrintsOnly, LeavesAll};
-ghost use Rattle.lop_tool.specs.Ended.{Ended, Faulted};
-ghost use Rattle.lop_tool.specs.Run.{ExactlyWhere, SolvesFile, AcceptsCertificate, WeighsOrder, GeneratesWeights, IsRejected, PrintsRejection, IsRefused, PrintsRefusal, LeavesAtMost, IsComplete};
+ghost use Rattle.lop_tool.specs.Ended.{Ended, Faulted, LeavesAtMost};
+ghost use Rattle.lop_tool.specs.Run.{ExactlyWhere, SolvesFile, AcceptsCertificate, WeighsOrder, GeneratesWeights, IsRejected, PrintsRejection, IsRefused, PrintsRefusal, IsComplete};
 
 use crate::checking::check;
 use crate::generation::generated;

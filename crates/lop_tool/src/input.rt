@@ -6,7 +6,7 @@ ghost use Rattle.lop_lolib.specs.Reading.{lolib_reading};
 ghost use Rattle.lop_preflib.specs.Reading.{preflib_reading};
 ghost use Rattle.lop_profile.specs.Reading.{profile_reading};
 ghost use Rattle.lop_tool.specs.Input.{matrix_instance, profile_instance, weighed_instance, input_reading, input_named, order_file_reading, order_named, IsOfSize};
-ghost use Rattle.lop_tool.specs.Ended.{FileCause};
+ghost use Rattle.lop_tool.specs.Steps.{FileCause};
 ghost use Rattle.lop_tool.specs.declared.stop.Stop.TheVariants.{Memory};
 
 use crate::refusal::{InputRefusal, OrderFileRefusal};

@@ -39,7 +39,7 @@ impl Model for Search {
 
     ghost view = { λ s. s.core };
 
-    ghost invariant = { λ s. IsPrepared s.core × (out_count s.core.state.nodes ≡ 0) × (s.core.state.evaluated ≡ 0) × (s.pool.size ≡ s.core.problem.weights.size) };
+    ghost invariant = { λ s. IsPrepared s.core.problem × (out_count s.core.state.nodes ≡ 0) × (s.core.state.evaluated ≡ 0) × (s.pool.size ≡ s.core.problem.weights.size) };
 }
 
 impl Search {

@@ -4,12 +4,13 @@ ghost use Rattle.lop_desk.specs.Whole.{PrintsAll};
 ghost use Rattle.lop_words.specs.declared.command.Command.TheVariants.{Solve};
 ghost use Rattle.lop_core.specs.Machine.{state_bound};
 ghost use Rattle.lop_tool.specs.Status.{number, done_status};
-ghost use Rattle.lop_tool.specs.Told.{files_of, settled};
+ghost use Rattle.lop_tool.specs.Told.{files_of, LeavesAll};
 ghost use Rattle.lop_tool.specs.Input.{IsOfSize};
 ghost use Rattle.lop_tool.specs.Certificate.{HasBegun, LeavesCertificate};
 ghost use Rattle.lop_tool.specs.Solve.{SolvesInstance, IsPrintable, solution_text, solution_optimal};
 ghost use Rattle.lop_tool.specs.Reply.{IsRight};
-ghost use Rattle.lop_tool.specs.Ended.{Ended, StopCause, BeginCause};
+ghost use Rattle.lop_tool.specs.Steps.{BeginCause};
+ghost use Rattle.lop_tool.specs.Ended.{Ended, StopCause};
 
 use crate::certificate::{begin_certificate, leave_certificate};
 use crate::input::{Instance, read_input};
@@ -121,7 +122,7 @@ fn solve_file<R: Threads + Sync, D: Desk, G: Gate>(
     requires at_most { workers ≤ 16 }
     requires positive { 1 ≤ nodes }
     requires within_limit { nodes ≤ 1000000 }
-    ensures world { settled (D.told desk.new) ≡ settled (D.told desk.old) }
+    ensures world { LeavesAll (D.told desk.old) (D.told desk.new) }
     ensures later { D.faults desk.old ≤ D.faults desk.new }
     ensures right { IfOk result (λ x. IsRight (files_of (D.told desk.old)) (Some (Solve format file.now workers nodes cert)) (done_status (solution_optimal x)) (solution_text x) (LeavesCertificate x.cert x.core)) }
     ensures printable { IfOk result IsPrintable }
@@ -148,7 +149,7 @@ fn solve_instance<R: Threads + Sync, D: Desk, G: Gate>(
     requires positive { 1 ≤ nodes }
     requires within_limit { nodes ≤ 1000000 }
     requires of_size { IsOfSize input.weights.size input.profile }
-    ensures world { settled (D.told desk.new) ≡ settled (D.told desk.old) }
+    ensures world { LeavesAll (D.told desk.old) (D.told desk.new) }
     ensures later { D.faults desk.old ≤ D.faults desk.new }
     ensures solves { IfOk result (SolvesInstance input nodes cert) }
     ensures printable { IfOk result IsPrintable }

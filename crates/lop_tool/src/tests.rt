@@ -1,4 +1,6 @@
 // Whole runs: what is printed, and how they end.
+mod hostile;
+
 use crate::{Gate, OpenGate, run, solve_then_check};
 use lop_desk::{MemoryDesk, NamedBytes};
 use lop_gen::{generate, lolib_text};
@@ -6,16 +8,10 @@ use std::alloc::Global;
 use std::process::Abort;
 use std::sync::atomic::{AtomicBool, Ordering};
 use std::test::Fail;
-use std::thread::Threads;
+use std::thread::{Threads, yield_now};
 
 /// A file `a`, a file `b`, the words, the status, and what is printed.
-type Row = (
-    &'static [u8],
-    &'static [u8],
-    &'static str,
-    u8,
-    &'static [u8],
-);
+type Row<'a> = (&'a [u8], &'a [u8], &'a str, u8, &'a [u8]);
 
 /// A desk with these files under `a` and `b`, in which these calls fail, and which prints so many bytes.
 fn desk(
@@ -50,9 +46,19 @@ fn status<R: Threads + Sync>(
 }
 
 fn ends<R: Abort + Threads + Sync>(rt: &R, alloc: Global, row: &Row) -> Result<(), Fail> {
-    let (a, b, line, wanted, printed) = *row;
-    let mut memory = desk(alloc, a, b, &[], 1000)?;
-    assert_eq!(rt; status(rt, alloc, line, &mut memory)?, wanted, "{line}");
+    let mut memory = desk(alloc, row.0, row.1, &[], 1000)?;
+    ends_on(rt, alloc, &mut memory, row)
+}
+
+/// The same, on a desk with the row's files.
+fn ends_on<R: Abort + Threads + Sync>(
+    rt: &R,
+    alloc: Global,
+    memory: &mut MemoryDesk,
+    row: &Row,
+) -> Result<(), Fail> {
+    let (_, _, line, wanted, printed) = *row;
+    assert_eq!(rt; status(rt, alloc, line, memory)?, wanted, "{line}");
     assert_eq!(rt; memory.printed(), printed, "{line}");
     Ok(())
 }
@@ -179,14 +185,16 @@ fn fence_to_the_end(rt: HostRuntime) -> Result<(), Fail> {
 
 const VOTES: &str = "solve preflib a";
 
+const LUNCH_ROW: Row = (
+    LUNCH,
+    b"",
+    VOTES,
+    0,
+    b"objects 3\norder 1 2 3\nvalue 17\nbound 17\nstatus optimal\nnodes 1\ntotal 27\nlinearity 0.6296\nvoters 9\ndisagreements 10\nrank 1 1 Soup\nrank 2 2 Rice\nrank 3 3 Fish\n",
+);
+
 const VOTED: &[Row] = &[
-    (
-        LUNCH,
-        b"",
-        VOTES,
-        0,
-        b"objects 3\norder 1 2 3\nvalue 17\nbound 17\nstatus optimal\nnodes 1\ntotal 27\nlinearity 0.6296\nvoters 9\ndisagreements 10\nrank 1 1 Soup\nrank 2 2 Rice\nrank 3 3 Fish\n",
-    ),
+    LUNCH_ROW,
     (
         b"# NUMBER ALTERNATIVES: 3\n2: 1\n",
         b"",
@@ -270,14 +278,29 @@ const VALUE: &str = "value lolib a b";
 
 const CHECK: &str = "check lolib a b";
 
+/// The sectors in the reversed order.
+const REVERSED_ROW: Row = (
+    SECTORS,
+    b"3 2 1\n",
+    VALUE,
+    0,
+    b"objects 3\nvalue 6\ntotal 16\nlinearity 0.3750\n",
+);
+
+/// A certificate of a tie of three, with the bound that is its value.
+const TIGHT: &[u8] =
+    b"lopcert 1\nobjects 3\norder 1 2 3\nvalue 4\nbound 4\ncuts 1\ndicycle 1 2 3\nleaf 1 1 1 2\nend\n";
+
+const TIGHT_ROW: Row = (
+    TIE,
+    TIGHT,
+    CHECK,
+    0,
+    b"accepted\nvalue 4\nbound 4\nstatus optimal\n",
+);
+
 const SECOND_FILES: &[Row] = &[
-    (
-        SECTORS,
-        b"3 2 1\n",
-        VALUE,
-        0,
-        b"objects 3\nvalue 6\ntotal 16\nlinearity 0.3750\n",
-    ),
+    REVERSED_ROW,
     (SECTORS, b"1 2 2\n", VALUE, 3, b"refused order-repeated 2\n"),
     (SECTORS, b"1 2\n", VALUE, 3, b"refused order-length 2\n"),
     (SECTORS, b"0 1 2\n", VALUE, 3, b"refused order-range 0\n"),
@@ -296,13 +319,7 @@ const SECOND_FILES: &[Row] = &[
         6,
         b"accepted\nvalue 4\nbound 6\nstatus bounded\n",
     ),
-    (
-        TIE,
-        b"lopcert 1\nobjects 3\norder 1 2 3\nvalue 4\nbound 4\ncuts 1\ndicycle 1 2 3\nleaf 1 1 1 2\nend\n",
-        CHECK,
-        0,
-        b"accepted\nvalue 4\nbound 4\nstatus optimal\n",
-    ),
+    TIGHT_ROW,
     (
         TIE,
         b"lopcert 1\nobjects 3\norder 1 2 3\nvalue 4\nbound 5\ncuts 0\nleaf 1 0\nend\n",
@@ -450,24 +467,9 @@ fn round_trips(rt: HostRuntime) -> Result<(), Fail> {
     Ok(())
 }
 
-// With one node to spare the certificate is the same, and where a call fails before the end there is none.
-#[test]
-fn certificates_of_the_sectors(rt: HostRuntime) -> Result<(), Fail> {
-    let alloc = rt.alloc();
-    let written =
-        b"lopcert 1\nobjects 3\norder 1 2 3\nvalue 10\nbound 10\ncuts 1\ndicycle 1 2 3\nleaf 1 1 1 2\nend\n";
-    let solve = "solve lolib a --cert c --nodes 1";
-    let mut memory = desk(alloc, SECTORS, b"", &[], 1000)?;
-    assert_eq!(rt; status(&rt, alloc, solve, &mut memory)?, 0);
-    assert_eq!(rt; memory.file("c"), Some(written.as_slice()));
-    for call in 1..15 {
-        let mut failing = desk(alloc, SECTORS, b"", &[call], 1000)?;
-        assert_eq!(rt; status(&rt, alloc, solve, &mut failing)?, 4);
-        assert_eq!(rt; failing.file("c"), None);
-        assert_eq!(rt; failing.printed(), b"".as_slice());
-    }
-    Ok(())
-}
+// How often a worker looks for the other. Between two looks it lets other threads run, so on a busy machine a look
+// takes as long as they do.
+const LOOKS: u32 = 20_000_000;
 
 // Two workers show each other that they have a ticket. Each looks for the other a bounded number of times.
 #[derive(Drop)]
@@ -496,11 +498,12 @@ impl Meeting {
 // Shows itself, and looks for the other.
 fn meet(own: &AtomicBool, other: &AtomicBool, met: &AtomicBool) {
     own.store(true, Ordering::SeqCst);
-    for _ in 0..200_000_000 {
+    for _ in 0..LOOKS {
         if other.load(Ordering::SeqCst) {
             met.store(true, Ordering::SeqCst);
             return;
         }
+        yield_now();
     }
 }
 

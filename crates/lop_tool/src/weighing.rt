@@ -4,9 +4,9 @@ ghost use Rattle.lop_desk.specs.Whole.{OnlyOpens};
 ghost use Rattle.lop_words.specs.declared.command.Command.TheVariants.{Value};
 ghost use Rattle.lop_tool.specs.Status.{number, done_status};
 ghost use Rattle.lop_tool.specs.Told.{files_of};
-ghost use Rattle.lop_tool.specs.Value.{WeighsNamed, valuation_text};
+ghost use Rattle.lop_tool.specs.Value.{WeighsNamed, OrderStop, valuation_text};
 ghost use Rattle.lop_tool.specs.Reply.{IsRight};
-ghost use Rattle.lop_tool.specs.Ended.{Ended, StopCause, OrderStop, NoFile};
+ghost use Rattle.lop_tool.specs.Ended.{Ended, StopCause, NoFile};
 
 use crate::input::{Instance, read_input, read_order_file};
 use crate::refusal::Refusal;

@@ -1,4 +1,4 @@
-use Rattle.lop_tool.proofs.Promises.{solves, checks, values, generates, usage, rejects_where, rejection_line, usage_line, refuses_where, refusal_line_of, faults, left_by_fault, left_by_want, completes}
+use Rattle.lop_tool.proofs.Promises.{solves, checks, values, generates, usage, rejects, rejection_line, usage_line, refuses, refusal_line_of, faults, left_by_fault, left_by_want, completes}
 use Rattle.lop_tool.proofs.dispatch.run.Goals as goal
 
 pub returns-clause-solves : goal.returns-clause-solves
@@ -35,10 +35,10 @@ pub returns-clause-memory : goal.returns-clause-memory
 returns-clause-memory g c = left_by_want _ _ _ _ _ _ (rw (← c.number.ensures) at c.carry_out.ensures.ended)
 
 pub returns-clause-rejects : goal.returns-clause-rejects
-returns-clause-rejects g c = rejects_where _ _ _ _ _ _ (rw (← c.number.ensures) at c.carry_out.ensures.ended)
+returns-clause-rejects g c = rejects _ _ _ _ _ _ (rw (← c.number.ensures) at c.carry_out.ensures.ended)
 
 pub returns-clause-refuses : goal.returns-clause-refuses
-returns-clause-refuses g c = refuses_where _ _ _ _ _ _ (rw (← c.number.ensures) at c.carry_out.ensures.ended)
+returns-clause-refuses g c = refuses _ _ _ _ _ _ (rw (← c.number.ensures) at c.carry_out.ensures.ended)
 
 pub returns-clause-completes : goal.returns-clause-completes
 returns-clause-completes g c = completes _ _ _ _ _ _ (rw (← c.number.ensures) at c.carry_out.ensures.ended)

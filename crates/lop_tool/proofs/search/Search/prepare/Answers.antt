@@ -1,7 +1,6 @@
 use Rattle.std.proofs.Common.{◌∙◌, List, ℕ, length, ap, sym}
 use Rattle.std.proofs.lemmas.List.FromFn.{length-range_with_len}
-use Rattle.lop_core.specs.Core.{CoreFields, prepared}
-use Rattle.lop_model.specs.Matrix.{weight}
+use Rattle.lop_tool.specs.Names.{CoreFields, prepared, weight}
 use Rattle.lop_tool.proofs.SearchedLemmas.{IsPrepared-made}
 use Rattle.lop_tool.proofs.search.Search.prepare.Goals as goal
 

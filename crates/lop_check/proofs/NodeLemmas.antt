@@ -1,17 +1,10 @@
 -- What a line of the tree does to the pending paths.
-use Rattle.std.proofs.Common.{◌≡◌, ℕ, suc, ◌+◌, ◌*◌, ◌<◌, ◌≤◌, Bool, true, false, cond, ◌&&◌, List, [], ◌∷◌, ◌++◌, length, drop, drop-cons, get_or, nat_abs, ℤ, pos, ◌≤ℤ◌, ◌<ℤ◌, Option, None, Some, refl, sym, ◌∙◌, ap, arith}
+use Rattle.std.proofs.Common.{◌≡◌, ℕ, suc, ◌+◌, ◌*◌, ◌<◌, ◌≤◌, Bool, true, false, cond, ◌&&◌, List, [], ◌∷◌, length, drop, drop-cons, get_or, nat_abs, ℤ, pos, ◌≤ℤ◌, ◌<ℤ◌, Option, None, Some, refl, sym, ◌∙◌, ap, arith}
 use Rattle.std.specs.Prelude.{int_lt, nat_lt, nat_le}
 use Rattle.std.proofs.lemmas.Int.{ints}
 use Rattle.std.proofs.lemmas.List.{drop_all}
-use Rattle.lop_model.specs.declared.pair.Pair.{Pair}
-use Rattle.lop_model.specs.Matrix.{Matrix}
-use Rattle.lop_cuts.specs.declared.kind.CutKind.{CutKind}
-use Rattle.lop_certtext.specs.declared.word.CertWord.TheVariants.{SplitLine}
-use Rattle.lop_model.specs.Reversed.{reversed}
 use Rattle.lop_certtext.specs.LeafLine.{LeafTerms, are_rising, terms_of, is_leaf_row, leaf_of}
-use Rattle.lop_certtext.specs.Answer.{split_of, split_step}
-use Rattle.lop_check.specs.TreePlace.{TreePlace}
-use Rattle.lop_check.specs.Nodes.{follows, Passes}
+use Rattle.lop_check.specs.Nodes.{follows}
 
 -- ---- terms in turn
 
@@ -30,11 +23,6 @@ rising_step ns count last i l =
 
 pub none_rising : (ns : List ℤ) (count last k : ℕ) → length ns ≤ k → are_rising last count (terms_of (drop k ns)) ≡ true
 none_rising ns count last k l = ap (λ (xs : List ℤ). are_rising last count (terms_of xs)) (drop_all k ns l)
-
--- ---- splits
-
-pub split_passes : (C : Matrix) (cuts : List CutKind) (b : ℤ) (G : List Pair) (at : TreePlace) (number : ℕ) (ns : List ℤ) (p : Pair) → split_of C.size G ns ≡ Some p → Passes C cuts b G at number SplitLine ns ((at.path ++ p ∷ []) ∷ (at.path ++ reversed p ∷ []) ∷ at.others)
-split_passes C cuts b G at number ns p e next = ap (λ (o : Option Pair). split_step at.path at.others number o next) e
 
 -- ---- leaves
 

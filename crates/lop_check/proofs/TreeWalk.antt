@@ -1,20 +1,19 @@
 -- The walk over the lines of the cuts and of the tree.
-use Rattle.std.proofs.Common.{◌≡◌, ℕ, suc, ◌+◌, ◌-◌, ◌<◌, ◌≤◌, Bool, true, false, List, [], ◌∷◌, ◌++◌, length, ℤ, refl, sym, ◌∙◌, ap, subst, arith, Ok, Err}
-use Rattle.std.specs.Prelude.{Result, IfOk, IfErr}
+use Rattle.std.proofs.Common.{◌≡◌, ℕ, suc, ◌+◌, ◌-◌, ◌<◌, ◌≤◌, Bool, true, false, List, [], ◌∷◌, ◌++◌, length, ℤ, refl, sym, ◌∙◌, ap, subst, arith}
 use Rattle.std.proofs.lemmas.List.{length_push}
 use Rattle.lop_model.specs.declared.pair.Pair.{Pair}
 use Rattle.lop_model.specs.Matrix.{Matrix}
 use Rattle.lop_cuts.specs.declared.kind.CutKind.{CutKind}
+use Rattle.lop_certtext.specs.declared.reason.Reason.{Reason}
 use Rattle.lop_certtext.specs.declared.word.CertWord.{CertWord}
 use Rattle.lop_certtext.specs.Line.{CertLine}
 use Rattle.lop_model.specs.Closing.{closed}
-use Rattle.lop_certtext.specs.Answer.{TextLine, ended_line, unended_line, long_line, long_file, CheckAnswer, spelled, node_step, tree_step, cut_step, cuts_left_step}
+use Rattle.lop_certtext.specs.Answer.{TextLine, ended_line, unended_line, long_line, long_file, CheckAnswer, rejected, spelled, node_step, tree_step, cut_step, cuts_left_step}
 use Rattle.lop_check.specs.declared.verdict.Verdict.{Verdict}
-use Rattle.lop_check.specs.Verdict.{VerdictCause}
+use Rattle.lop_check.specs.declared.verdict.Verdict.TheVariants as verdict
 use Rattle.lop_check.specs.TreePlace.{TreePlace, pending, pending_if}
-use Rattle.lop_check.specs.Nodes.{Passes, Fails}
-use Rattle.lop_check.specs.Walk.{Spot, ReadsOn, EndsCheck, HandsOver}
-use Rattle.lop_check.proofs.Walk.{passes, begins, begins_end, says, then_on, then_ends}
+use Rattle.lop_check.specs.Walk.{Spot, ReadsOn, EndsCheck}
+use Rattle.lop_check.proofs.Walk.{passes, begins, begins_end, fails, then_on, then_ends}
 
 -- a line of the tree, and then the rest
 abbrev pub node_then : Matrix → List CutKind → ℤ → ℤ → List Pair → List (List Pair) → ℕ → CertLine → List TextLine → CheckAnswer
@@ -30,40 +29,42 @@ tree_spelled C cuts value bound path others number (unended_line bytes ∷ lines
 
 -- the line of a node, by its number before it was read and after it
 pub node_goes : (C : Matrix) (cuts : List CutKind) (value bound : ℤ) (at : TreePlace) (left : List (List Pair)) (number same : ℕ) (a b : Spot) (word : CertWord) (numbers : List ℤ)
-    → ReadsOn a b (λ lines. spelled number lines (node_then C cuts value bound at.path at.others number)) (node_then C cuts value bound at.path at.others same (record { word = word; numbers = numbers })) → Passes C cuts bound (closed at.path) at same word numbers left
+    → ReadsOn a b (λ lines. spelled number lines (node_then C cuts value bound at.path at.others number)) (node_then C cuts value bound at.path at.others same (record { word = word; numbers = numbers }))
+    → ((next : List (List Pair) → CheckAnswer) → node_step C cuts bound (closed at.path) at.path at.others same word numbers next ≡ next left)
     → ReadsOn a b (tree_step closed C cuts value bound (pending at) number) (tree_step closed C cuts value bound left (same + 1))
 node_goes C cuts value bound at left number same a b word numbers reads goes =
     begins a b (λ lines. spelled number lines (node_then C cuts value bound at.path at.others number)) (tree_step closed C cuts value bound (pending at) number) (tree_step closed C cuts value bound left (same + 1)) (tree_spelled C cuts value bound at.path at.others number)
     (passes a b (λ lines. spelled number lines (node_then C cuts value bound at.path at.others number)) (node_then C cuts value bound at.path at.others same (record { word = word; numbers = numbers })) (tree_step closed C cuts value bound left (same + 1)) (λ rest. goes (λ l. tree_step closed C cuts value bound l (same + 1) rest)) reads)
 
-pub node_fails : (C : Matrix) (cuts : List CutKind) (value bound : ℤ) (at : TreePlace) (number same : ℕ) (a b : Spot) (word : CertWord) (numbers : List ℤ) (v : Verdict)
-    → ReadsOn a b (λ lines. spelled number lines (node_then C cuts value bound at.path at.others number)) (node_then C cuts value bound at.path at.others same (record { word = word; numbers = numbers })) → Fails C cuts bound (closed at.path) at same word numbers v → VerdictCause a.faults b.faults v
-    → EndsCheck a b (tree_step closed C cuts value bound (pending at) number) v
-node_fails C cuts value bound at number same a b word numbers v reads stops cause =
-    begins_end a b (λ lines. spelled number lines (node_then C cuts value bound at.path at.others number)) (tree_step closed C cuts value bound (pending at) number) v (tree_spelled C cuts value bound at.path at.others number)
-    (says a b (λ lines. spelled number lines (node_then C cuts value bound at.path at.others number)) (node_then C cuts value bound at.path at.others same (record { word = word; numbers = numbers })) v (λ rest. stops (λ l. tree_step closed C cuts value bound l (same + 1) rest)) cause reads)
-
 pub node_stops : (C : Matrix) (cuts : List CutKind) (value bound : ℤ) (at : TreePlace) (number : ℕ) (a b : Spot) (v : Verdict) → EndsCheck a b (λ lines. spelled number lines (node_then C cuts value bound at.path at.others number)) v → EndsCheck a b (tree_step closed C cuts value bound (pending at) number) v
 node_stops C cuts value bound at number a b v stops =
     begins_end a b (λ lines. spelled number lines (node_then C cuts value bound at.path at.others number)) (tree_step closed C cuts value bound (pending at) number) v (tree_spelled C cuts value bound at.path at.others number) stops
 
--- a fact of what a test was told, of the same by other names
-retold : (P : ℤ → List Pair → ℕ → List ℤ → Type 0) (b b2 : ℤ) (G G2 : List Pair) (k k2 : ℕ) (ns ns2 : List ℤ) → b ≡ b2 → G ≡ G2 → k ≡ k2 → ns ≡ ns2 → P b G k ns → P b2 G2 k2 ns2
-retold P b b2 G G2 k k2 ns ns2 eb eg ek es h = subst (λ (x : List ℤ). P b2 G2 k2 x) es (subst (λ (x : ℕ). P b2 G2 x ns) ek (subst (λ (x : List Pair). P b2 x k ns) eg (subst (λ (x : ℤ). P x G k ns) eb h)))
+-- the test of a node's line says this of what it was told; it says the same by other names
+retold : (P : ℤ → List Pair → List ℤ → Type 0) (b b2 : ℤ) (G G2 : List Pair) (ns ns2 : List ℤ) → b ≡ b2 → G ≡ G2 → ns ≡ ns2 → P b G ns → P b2 G2 ns2
+retold P b b2 G G2 ns ns2 eb eg es h = subst (λ (x : List ℤ). P b2 G2 x) es (subst (λ (x : List Pair). P b2 x ns) eg (subst (λ (x : ℤ). P x G ns) eb h))
 
--- what the line of a node hands over, from what its test says of what it was told
-pub node_handed : (C : Matrix) (cuts left_cuts : List CutKind) (value bound told_bound : ℤ) (G : List Pair) (at now : TreePlace) (number same told_number : ℕ) (a b : Spot) (word : CertWord) (numbers told_numbers : List ℤ) (r : Result Bool Verdict)
-    → left_cuts ≡ cuts → told_bound ≡ bound → G ≡ closed at.path → told_number ≡ same → told_numbers ≡ numbers
+-- a line that passes its test
+pub node_passed : (C : Matrix) (cuts left_cuts : List CutKind) (value bound told_bound : ℤ) (G : List Pair) (at : TreePlace) (left : List (List Pair)) (number same : ℕ) (a b : Spot) (word : CertWord) (numbers told_numbers : List ℤ)
+    → left_cuts ≡ cuts → told_bound ≡ bound → G ≡ closed at.path → told_numbers ≡ numbers
     → ReadsOn a b (λ lines. spelled number lines (node_then C cuts value bound at.path at.others number)) (node_then C cuts value bound at.path at.others same (record { word = word; numbers = numbers }))
-    → IfOk r (λ more. Passes C cuts told_bound G at told_number word told_numbers (pending_if more now)) → IfErr r (Fails C cuts told_bound G at told_number word told_numbers) → IfErr r (VerdictCause a.faults b.faults)
-    → HandsOver a b (tree_step closed C cuts value bound (pending at) number) (λ more. tree_step closed C left_cuts value bound (pending_if more now) (same + 1)) r
-node_handed C cuts left_cuts value bound told_bound G at now number same told_number a b word numbers told_numbers (Ok more) ec eb eg ek es reads goes stops cause =
-    subst (λ (l : List CutKind). ReadsOn a b (tree_step closed C cuts value bound (pending at) number) (tree_step closed C l value bound (pending_if more now) (same + 1))) (sym ec)
-    (node_goes C cuts value bound at (pending_if more now) number same a b word numbers reads
-    (retold (λ (x : ℤ) (H : List Pair) (k : ℕ) (ns : List ℤ). Passes C cuts x H at k word ns (pending_if more now)) told_bound bound G (closed at.path) told_number same told_numbers numbers eb eg ek es goes))
-node_handed C cuts left_cuts value bound told_bound G at now number same told_number a b word numbers told_numbers (Err v) ec eb eg ek es reads goes stops cause =
-    node_fails C cuts value bound at number same a b word numbers v reads
-    (retold (λ (x : ℤ) (H : List Pair) (k : ℕ) (ns : List ℤ). Fails C cuts x H at k word ns v) told_bound bound G (closed at.path) told_number same told_numbers numbers eb eg ek es stops) cause
+    → ((k : ℕ) (next : List (List Pair) → CheckAnswer) → node_step C cuts told_bound G at.path at.others k word told_numbers next ≡ next left)
+    → ReadsOn a b (tree_step closed C cuts value bound (pending at) number) (tree_step closed C left_cuts value bound left (same + 1))
+node_passed C cuts left_cuts value bound told_bound G at left number same a b word numbers told_numbers ec eb eg es reads goes =
+    subst (λ (l : List CutKind). ReadsOn a b (tree_step closed C cuts value bound (pending at) number) (tree_step closed C l value bound left (same + 1))) (sym ec)
+    (node_goes C cuts value bound at left number same a b word numbers reads
+    (retold (λ (x : ℤ) (H : List Pair) (ns : List ℤ). (next : List (List Pair) → CheckAnswer) → node_step C cuts x H at.path at.others same word ns next ≡ next left) told_bound bound G (closed at.path) told_numbers numbers eb eg es (goes same)))
+
+-- a line that fails it
+pub node_failed : (C : Matrix) (cuts : List CutKind) (value bound told_bound : ℤ) (G : List Pair) (at : TreePlace) (number same : ℕ) (a b : Spot) (word : CertWord) (numbers told_numbers : List ℤ) (v : Verdict) (why : Reason)
+    → told_bound ≡ bound → G ≡ closed at.path → told_numbers ≡ numbers → v ≡ verdict.Rejected same why
+    → ReadsOn a b (λ lines. spelled number lines (node_then C cuts value bound at.path at.others number)) (node_then C cuts value bound at.path at.others same (record { word = word; numbers = numbers }))
+    → ((k : ℕ) (next : List (List Pair) → CheckAnswer) → node_step C cuts told_bound G at.path at.others k word told_numbers next ≡ rejected k why)
+    → EndsCheck a b (tree_step closed C cuts value bound (pending at) number) v
+node_failed C cuts value bound told_bound G at number same a b word numbers told_numbers v why eb eg es is reads stops =
+    node_stops C cuts value bound at number a b v
+    (fails a b (λ lines. spelled number lines (node_then C cuts value bound at.path at.others number)) (node_then C cuts value bound at.path at.others same (record { word = word; numbers = numbers })) v same why is
+    (λ rest. retold (λ (x : ℤ) (H : List Pair) (ns : List ℤ). (next : List (List Pair) → CheckAnswer) → node_step C cuts x H at.path at.others same word ns next ≡ rejected same why) told_bound bound G (closed at.path) told_numbers numbers eb eg es (stops same) (λ l. tree_step closed C cuts value bound l (same + 1) rest)) reads)
 
 pub left_if : (b : Bool) (at : TreePlace) → b ≡ true → pending_if b at ≡ pending at
 left_if b at e = ap (λ (t : Bool). pending_if t at) e

@@ -349,7 +349,3 @@ lt_test x y l = grind (arith, ints)
 
 pub not_lt_test : (x y : ℤ) → y ≤ℤ x → int_lt x y ≡ false
 not_lt_test x y l = grind (arith, ints)
-
--- the two numbers that a reason keeps
-pub verdict_high : (number : ℕ) (a b u l : ℤ) (v : Verdict) → v ≡ verdict.Rejected number (reason.High u l) → u ≡ a → l ≡ b → Says (rejected number (reason.High a b)) v
-verdict_high number a b u l v is first second = subst (Says (rejected number (reason.High a b))) (sym is) (ap (λ (x : ℤ). rejected number (reason.High x b)) (sym first) ∙ ap (λ (y : ℤ). rejected number (reason.High u y)) (sym second))

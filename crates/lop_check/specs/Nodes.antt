@@ -1,16 +1,15 @@
 -- What a line of the tree does.
-use Rattle.std.specs.Prelude.{◌≡◌, ◌≤◌, ◌+◌, ◌*◌, ◌&&◌, nat_lt, nat_le, slice_index_or, ℕ, true, pos, nat_abs, Some, Bool, List, [], length, All, ℤ}
+use Rattle.std.specs.Prelude.{◌≡◌, ◌≤◌, ◌+◌, ◌*◌, ◌&&◌, nat_lt, nat_le, slice_index_or, ℕ, true, pos, nat_abs, Some, Bool, List, [], length, All, ℤ, Result, MatchResult}
 use Rattle.lop_model.specs.declared.pair.Pair.{Pair}
 use Rattle.lop_model.specs.Matrix.{Matrix}
 use Rattle.lop_cuts.specs.declared.kind.CutKind.{CutKind}
 use Rattle.lop_cuts.specs.Kind.{IsCut, FitsCut}
+use Rattle.lop_certtext.specs.declared.reason.Reason.{Reason}
 use Rattle.lop_certtext.specs.declared.word.CertWord.{CertWord}
 use Rattle.lop_certtext.specs.LeafLine.{are_rising, terms_of}
-use Rattle.lop_certtext.specs.Answer.{CheckAnswer, node_step, leaf_step}
+use Rattle.lop_certtext.specs.Answer.{CheckAnswer, rejected, node_step, split_step, split_of, leaf_step}
 use Rattle.lop_check.specs.declared.node.Proof.{Proof}
-use Rattle.lop_check.specs.declared.verdict.Verdict.{Verdict}
-use Rattle.lop_check.specs.Verdict.{Says}
-use Rattle.lop_check.specs.TreePlace.{TreePlace, place_after, IsWalk}
+use Rattle.lop_check.specs.TreePlace.{place, pending_if, IsRoot, IsWalk, HasRoom}
 
 -- the cuts are right and of n objects
 pub record AreRightCuts (n : ℕ) (cuts : List CutKind) : Type 0 where
@@ -22,37 +21,49 @@ pub record IsCutOf (n : ℕ) (cut : CutKind) : Type 0 where
   pub right : IsCut cut
   pub fits : FitsCut n cut
 
--- where the walk over the tree stands
-abbrev pub place : Proof → TreePlace
-place p = place_after p.steps.items
-
 -- what the checker keeps while it walks
 pub record IsProof (n : ℕ) (p : Proof) : Type 0 where
   pub cuts : AreRightCuts n p.cuts.items
-  pub walk : IsWalk n p.steps.items p.trail
+  pub walk : IsWalk p.walk
+  pub size : p.walk.trail.size ≡ n
   pub square : length p.charges.items ≡ n * n
 
 -- the tables are those of n objects
 pub record IsRoomOf (n : ℕ) (p : Proof) : Type 0 where
-  pub size : p.trail.size ≡ n
+  pub size : p.walk.trail.size ≡ n
+  pub steps : HasRoom p.walk
   pub square : length p.charges.items ≡ n * n
 
 -- nothing is kept yet
 pub record IsFresh (n : ℕ) (p : Proof) : Type 0 where
   pub kept : IsProof n p
   pub no_cuts : p.cuts.items ≡ []
-  pub no_steps : p.steps.items ≡ []
-  pub root : p.trail ≡ record { size = n; path = []; fixed = [] }
+  pub root : IsRoot n p.walk
 
--- the line passes, where the closure of the path is G, and these paths are pending from then on
-abbrev pub Passes : Matrix → List CutKind → ℤ → List Pair → TreePlace → ℕ → CertWord → List ℤ → List (List Pair) → Type 0
-Passes C cuts bound G at number word ns left =
-    (next : List (List Pair) → CheckAnswer) → node_step C cuts bound G at.path at.others number word ns next ≡ next left
+-- what a test of a line answers, by the line's number, where the pending paths that it leaves are handed on
+abbrev pub LineTest : Type 0
+LineTest = ℕ → (List (List Pair) → CheckAnswer) → CheckAnswer
 
--- the line fails, with this verdict
-abbrev pub Fails : Matrix → List CutKind → ℤ → List Pair → TreePlace → ℕ → CertWord → List ℤ → Verdict → Type 0
-Fails C cuts bound G at number word ns verdict =
-    (next : List (List Pair) → CheckAnswer) → Says (node_step C cuts bound G at.path at.others number word ns next) verdict
+-- the test of a line of the tree, where the walk stands
+abbrev pub node_test : Matrix → Proof → ℤ → CertWord → List ℤ → LineTest
+node_test C p bound word ns number next = node_step C p.cuts.items bound p.walk.trail.fixed (place p.walk).path (place p.walk).others number word ns next
+
+-- the test of a split
+abbrev pub split_test : ℕ → Proof → List ℤ → LineTest
+split_test n p ns number next = split_step (place p.walk).path (place p.walk).others number (split_of n p.walk.trail.fixed ns) next
+
+-- the test of a leaf with this scale and these terms
+abbrev pub shown_test : Matrix → Proof → ℤ → ℕ → List ℤ → LineTest
+shown_test C p bound scale ns number next =
+    leaf_step C p.cuts.items bound p.walk.trail.fixed (place p.walk).others number (Some (record { scale = scale; terms = terms_of ns })) next
+
+-- the line passes the test, and the walk stands where the pending paths are those that it leaves; or it fails for the reason
+pub record TakesLine (n : ℕ) (old new : Proof) (test : LineTest) (result : Result Bool Reason) : Type 0 where
+  pub kept : IsProof n new
+  pub cuts : new.cuts ≡ old.cuts
+  pub answer : MatchResult result
+      (λ more. (number : ℕ) (next : List (List Pair) → CheckAnswer) → test number next ≡ next (pending_if more (place new.walk)))
+      (λ reason. (number : ℕ) (next : List (List Pair) → CheckAnswer) → test number next ≡ rejected number reason)
 
 -- a term's cut comes after `last` and is one of `count`, and its multiplier isn't 0
 abbrev pub follows : List ℤ → ℕ → ℕ → ℕ → Bool
@@ -65,8 +76,3 @@ pub record AreTerms (count : ℕ) (ns : List ℤ) : Type 0 where
   pub few : told ≤ 4096
   pub even : length ns ≡ 2 * told
   pub rising : are_rising 0 count (terms_of ns) ≡ true
-
--- the step of a leaf with this scale and these terms
-abbrev pub shown : Matrix → Proof → ℕ → List ℤ → ℤ → ℕ → (List (List Pair) → CheckAnswer) → CheckAnswer
-shown C p scale ns bound number next =
-    leaf_step C p.cuts.items bound p.trail.fixed (place p).others number (Some (record { scale = scale; terms = terms_of ns })) next

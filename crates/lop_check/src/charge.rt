@@ -1,11 +1,12 @@
 // What the terms of a leaf charge at the arcs of their cuts.
 ghost use Rattle.std.specs.Prelude.{◌≡◌, ◌≤◌, ◌<◌, ◌+◌, ◌-◌, ◌*◌, ◌^◌, ℕ, [], true, length, slice_index_or, pos, nat_abs, All};
-ghost use Rattle.lop_cuts.specs.Kind.{IsCut, FitsCut, IsArcBelow, arcs_of, right_side_of};
+ghost use Rattle.lop_cuts.specs.Kind.{FitsCut, IsArcBelow, arcs_of, right_side_of};
 ghost use Rattle.lop_cuts.specs.Lagrangian.{right_sides};
 ghost use Rattle.lop_certtext.specs.LeafLine.{are_rising, terms_of, terms_in};
 ghost use Rattle.lop_model.specs.Cells.{cell};
-ghost use Rattle.lop_cuts.specs.Charges.{arc_count, HasCharges};
-ghost use Rattle.lop_check.specs.Charges.{AreSmall};
+ghost use Rattle.lop_cuts.specs.Charges.{HasCharges};
+ghost use Rattle.lop_check.specs.Charges.{AddsCharges, AreSmall, IsTable};
+ghost use Rattle.lop_check.specs.Nodes.{AreRightCuts, AreTerms};
 
 use lop_cuts::Cut;
 use lop_model::Pair;
@@ -22,13 +23,10 @@ pub fn clear_charges(charges: &mut [u128], n: usize)
 
 // Adds the multiplier at each of the arcs. O(arcs).
 fn charge_arcs(charges: &mut [u128], n: usize, arcs: &[Pair], multiplier: u64)
-    requires square { length charges.old ≡ n * n }
-    requires within_limit { n ≤ 512 }
+    requires table { IsTable n charges.old }
     requires below { All (IsArcBelow n) arcs.now }
     requires few { length arcs.now ≤ 64 }
-    requires bounded { (a b : ℕ) → a < n → b < n → cell charges.old n a b ≤ 2 ^ 100 }
-    ensures same_length { length charges.new ≡ length charges.old }
-    ensures each { (a b : ℕ) → a < n → b < n → cell charges.new n a b ≡ cell charges.old n a b + multiplier * arc_count a b arcs.now }
+    ensures { AddsCharges n charges.old charges.new multiplier arcs.now }
 {
     for arc in arcs {
         charges[arc.before as usize * n + arc.after as usize] += u128::from(multiplier);
@@ -47,13 +45,10 @@ fn cut_place(numbers: &[i64], term: usize, count: usize) -> usize
 
 // Adds a term's multiplier at the arcs of its cut, and answers the multiplied right side. O(arcs).
 fn charge_term(cut: &Cut, multiplier: u64, charges: &mut [u128], n: usize) -> u128
-    requires square { length charges.old ≡ n * n }
-    requires within_limit { n ≤ 512 }
+    requires table { IsTable n charges.old }
     requires fits { FitsCut n cut.now }
-    requires bounded { (a b : ℕ) → a < n → b < n → cell charges.old n a b ≤ 2 ^ 100 }
     requires small { multiplier ≤ 2 ^ 63 }
-    ensures same_length { length charges.new ≡ length charges.old }
-    ensures each { (a b : ℕ) → a < n → b < n → cell charges.new n a b ≡ cell charges.old n a b + multiplier * arc_count a b (arcs_of cut.now) }
+    ensures adds { AddsCharges n charges.old charges.new multiplier (arcs_of cut.now) }
     ensures small { (a b : ℕ) → a < n → b < n → cell charges.new n a b ≤ cell charges.old n a b + 2 ^ 63 }
     ensures side { result ≡ multiplier * right_side_of cut.now }
     ensures few { result ≤ 2 ^ 69 }
@@ -64,19 +59,10 @@ fn charge_term(cut: &Cut, multiplier: u64, charges: &mut [u128], n: usize) -> u1
 
 // Adds each term's multiplier at the arcs of its cut, and answers the multiplied right sides, added up. O(arcs of
 // all terms).
-pub fn charge_terms(
-    cuts: &[Cut],
-    numbers: &[i64],
-    told: usize,
-    charges: &mut [u128],
-    n: usize,
-) -> u128
+pub fn charge_terms(cuts: &[Cut], numbers: &[i64], charges: &mut [u128], n: usize) -> u128
     requires within_limit { n ≤ 512 }
-    requires right { All IsCut cuts.now }
-    requires fit { All (FitsCut n) cuts.now }
-    requires few { told ≤ 4096 }
-    requires count { length numbers.now ≡ 2 * told }
-    requires rising { are_rising 0 (length cuts.now) (terms_of numbers.now) ≡ true }
+    requires cuts { AreRightCuts n cuts.now }
+    requires terms { AreTerms (length cuts.now) numbers.now }
     requires none { HasCharges n [] charges.old }
     ensures sides { result ≡ right_sides (terms_in cuts.now (terms_of numbers.now)) }
     ensures few { result ≤ 2 ^ 82 }
@@ -84,7 +70,7 @@ pub fn charge_terms(
     ensures small { AreSmall n charges.new }
 {
     let mut sides: u128 = 0;
-    for term in 0..told {
+    for term in 0..numbers.len() / 2 {
         let place = cut_place(numbers, term, cuts.len());
         let multiplier = numbers[2 * term + 1].unsigned_abs();
         sides += charge_term(&cuts[place], multiplier, charges, n);

@@ -1,7 +1,6 @@
 // The checker and its room.
-ghost use Rattle.std.specs.Prelude.{◌≡◌, ◌≤◌, ◌<◌, ◌+◌, ◌-◌, ◌++◌, ◌∷◌, [], length, take, IfOk, IfSome, MatchResult};
+ghost use Rattle.std.specs.Prelude.{◌≡◌, ◌≤◌, ◌+◌, [], IfOk, IfSome, MatchResult};
 ghost use Rattle.lop_desk.specs.World.{unread};
-ghost use Rattle.lop_model.specs.Fixings.{IsClosure, IsUndecided};
 ghost use Rattle.lop_desk.specs.Desk.{IsOpen};
 ghost use Rattle.lop_desk.specs.Whole.{OnlyOpens};
 ghost use Rattle.lop_model.specs.Closing.{closed};
@@ -17,7 +16,7 @@ use crate::node::Proof;
 use crate::reading::Reading;
 use crate::tree::{end, tree};
 use lop_desk::Desk;
-use lop_model::{Pair, Weights};
+use lop_model::Weights;
 use std::alloc::{AllocError, Global};
 use std::marker::Model;
 
@@ -26,7 +25,7 @@ use std::marker::Model;
 #[derive(Drop)]
 pub struct CheckRoom {
     reading: Reading,
-    proof: Proof,
+    pub(crate) proof: Proof,
     n: u16,
 }
 
@@ -36,7 +35,7 @@ impl Model for CheckRoom {
 
     ghost Value = { FixedPath };
 
-    ghost view = { λ r. r.proof.trail };
+    ghost view = { λ r. r.proof.walk.trail };
 
     ghost invariant = { λ r. IsRoomOf r.n r.proof };
 }
@@ -59,33 +58,10 @@ impl CheckRoom {
     }
 }
 
-impl CheckRoom {
-    /// Appends an undecided pair to the path. It takes no memory. O(n), and O(n) for each object that is fixed before its
-    /// first.
-    pub fn descend(&mut self, pair: Pair)
-        requires undecided { IsUndecided self.old.size self.old.path pair.before pair.after }
-        ensures size { self.new.size ≡ self.old.size }
-        ensures path { self.new.path ≡ self.old.path ++ pair ∷ [] }
-        ensures closure { IsClosure self.new.path self.new.fixed }
-    {
-        self.proof.trail.descend(pair);
-    }
-
-    /// Takes the last pair off the path, and with it exactly what it fixed. As much as it took to append it.
-    pub fn ascend(&mut self)
-        requires some { 0 < length self.old.path }
-        ensures size { self.new.size ≡ self.old.size }
-        ensures path { self.new.path ≡ take (length self.old.path - 1) self.old.path }
-        ensures closure { IsClosure self.new.path self.new.fixed }
-    {
-        self.proof.trail.ascend();
-    }
-}
-
 /// What the checker says of the opened file, which was just opened. The lines are read in turn, one at a time, and the
-/// first test that fails gives line and reason. The room's path is emptied before and after. It takes memory for the cuts
-/// and the steps of the path; all else is there with the room. Cost: O(1) a byte, O(n² + arcs of its terms) a leaf, and for each
-/// step down or up the tree O(n), and O(n) for each object that is fixed before the first of its pair.
+/// first test that fails gives line and reason. The room's path is emptied before and after. It takes memory for the
+/// list of cuts alone; all else is there with the room. Cost: O(1) a byte, O(n² + arcs of its terms) a leaf, and for
+/// each step down or up the tree O(n), and O(n) for each object that is fixed before the first of its pair.
 pub fn check<D: Desk>(weights: &Weights, desk: &mut D, room: &mut CheckRoom) -> Verdict
     requires opened { IsOpen (D.told desk.old) }
     requires same_n { room.old.size ≡ weights.now.size }
@@ -101,7 +77,7 @@ pub fn check<D: Desk>(weights: &Weights, desk: &mut D, room: &mut CheckRoom) -> 
     room.reading.start();
     room.proof.restart(weights.n());
     let ending = walk(weights, desk, &mut room.reading, &mut room.proof);
-    room.proof.trail.clear();
+    room.proof.walk.trail.clear();
     verdict_of(ending)
 }
 

@@ -1,7 +1,7 @@
 // The cycles that a ladder's line spells.
-ghost use Rattle.std.specs.Prelude.{◌≡◌, ◌<◌, ◌≤◌, ℕ, List, length, slice_index_or, pos, Some, None, MatchOption};
+ghost use Rattle.std.specs.Prelude.{◌≡◌, ◌<◌, ◌≤◌, ℕ, length, Some, None, MatchOption};
 ghost use Rattle.lop_certtext.specs.CutLine.{cycles_of, if_ladder};
-ghost use Rattle.lop_check.specs.Cycles.{IsFirstCycle, IsNoCycle};
+ghost use Rattle.lop_check.specs.Cycles.{IsFirstCycle, IsNoCycle, NameNone, AreNamed};
 
 use crate::cut::{name_objects, objects_of};
 use arrayvec::ArrayVec;
@@ -30,37 +30,25 @@ fn first_cycle(numbers: &[i64], n: u16) -> Option<(Cycle, usize)>
     ensures { MatchOption result (IsNoCycle n numbers.now) (λ r. IsFirstCycle n numbers.now r.0 r.1) }
 {
     if numbers[0] == 3 {
-        first_three(numbers, n)
+        let objects = objects_behind(numbers, n, 3)?;
+        Some((Cycle::Three([objects[0], objects[1], objects[2]]), 4))
     } else if numbers[0] == 4 {
-        first_four(numbers, n)
+        let objects = objects_behind(numbers, n, 4)?;
+        let cycle = [objects[0], objects[1], objects[2], objects[3]];
+        Some((Cycle::Four(cycle), 5))
     } else {
         None
     }
 }
 
-// A cycle of three objects.
-fn first_three(numbers: &[i64], n: u16) -> Option<(Cycle, usize)>
+// The objects that so many numbers behind the first name, where they are there and each names one.
+fn objects_behind(numbers: &[i64], n: u16, count: usize) -> Option<ArrayVec<u16, 16>>
     requires some { 0 < length numbers.now }
-    requires three { slice_index_or numbers.now 0 (pos 0) ≡ pos 3 }
-    ensures { MatchOption result (IsNoCycle n numbers.now) (λ r. IsFirstCycle n numbers.now r.0 r.1) }
+    requires few { count ≤ 4 }
+    ensures { MatchOption result (NameNone n count numbers.now) (λ objects. AreNamed n count numbers.now objects.items) }
 {
-    if numbers.len() < 4 || !name_objects(&numbers[1..4], n) {
+    if numbers.len() <= count || !name_objects(&numbers[1..count + 1], n) {
         return None;
     }
-    let objects = objects_of(&numbers[1..4], n);
-    Some((Cycle::Three([objects[0], objects[1], objects[2]]), 4))
-}
-
-// A cycle of four objects.
-fn first_four(numbers: &[i64], n: u16) -> Option<(Cycle, usize)>
-    requires some { 0 < length numbers.now }
-    requires four { slice_index_or numbers.now 0 (pos 0) ≡ pos 4 }
-    ensures { MatchOption result (IsNoCycle n numbers.now) (λ r. IsFirstCycle n numbers.now r.0 r.1) }
-{
-    if numbers.len() < 5 || !name_objects(&numbers[1..5], n) {
-        return None;
-    }
-    let objects = objects_of(&numbers[1..5], n);
-    let cycle = [objects[0], objects[1], objects[2], objects[3]];
-    Some((Cycle::Four(cycle), 5))
+    Some(objects_of(&numbers[1..count + 1], n))
 }

@@ -8,6 +8,7 @@ mod cuts;
 mod depths;
 mod header;
 mod ladder;
+pub mod laws;
 mod leaf;
 mod node;
 mod numbers;

@@ -1,32 +1,25 @@
 // A line of the tree: a split goes down, and a leaf goes on to the next subtree.
-ghost use Rattle.std.specs.Prelude.{◌≡◌, ◌≤◌, ◌*◌, ℕ, List, [], pos, ◌+ℤ◌, ◌*ℤ◌, true, length, IfOk, IfErr, IsTrue, OnOk, MatchOption, Some, None};
-ghost use Rattle.lop_model.specs.declared.pair.Pair.{Pair};
-ghost use Rattle.lop_model.specs.Matrix.{Matrix};
+ghost use Rattle.std.specs.Prelude.{◌≡◌, ◌≤◌, pos, ◌+ℤ◌, ◌*ℤ◌, length, IfOk, MatchOption, Some, None};
 ghost use Rattle.lop_certtext.specs.declared.word.CertWord.TheVariants as words;
-ghost use Rattle.lop_certtext.specs.Answer.{CheckAnswer, split_of};
-ghost use Rattle.lop_check.specs.Trail.{FixedPath};
-ghost use Rattle.lop_check.specs.Verdict.{Says, VerdictCause};
-ghost use Rattle.lop_check.specs.TreePlace.{pending_if};
-ghost use Rattle.lop_check.specs.Nodes.{IsFresh, IsRoomOf, IsProof, AreTerms, Passes, Fails, place, shown};
+ghost use Rattle.lop_certtext.specs.Answer.{split_of};
+ghost use Rattle.lop_check.specs.Nodes.{IsFresh, IsRoomOf, IsProof, AreTerms, TakesLine, node_test, split_test, shown_test};
 
+use crate::Reason;
 use crate::cut::{is_object, object_of};
 use crate::leaf::is_leaf_row;
-use crate::path::{Step, enter, leave, may_split};
+use crate::path::{Walk, may_split};
 use crate::trail::Trail;
 use crate::upper::upper;
-use crate::{Reason, Verdict};
 use lop_certtext::CertWord;
 use lop_cuts::Cut;
 use lop_model::{Pair, Weights};
 use std::alloc::{AllocError, Global};
 
-// What a check keeps but for the line: the cuts, the steps down the tree and the trail
-// that follows them, and a table for charges.
+// What a check keeps but for the line: the cuts, the walk down the tree, and a table for charges.
 #[derive(Drop)]
 pub struct Proof {
     pub cuts: Vec<Cut>,
-    pub steps: Vec<Step>,
-    pub trail: Trail,
+    pub walk: Walk,
     pub charges: Vec<u128>,
 }
 
@@ -38,8 +31,7 @@ impl Proof {
         let size = n as usize;
         Ok(Proof {
             cuts: Vec::new(alloc),
-            steps: Vec::new(alloc),
-            trail: Trail::new(alloc, n)?,
+            walk: Walk::new(alloc, n)?,
             charges: vec![in alloc; 0; size * size]?,
         })
     }
@@ -50,39 +42,25 @@ impl Proof {
         ensures { IsFresh n self.new }
     {
         self.cuts.clear();
-        self.steps.clear();
-        self.trail.clear();
+        self.walk.restart();
     }
 }
 
-// The line fails, for this reason.
-fn rejected(line: u64, reason: Reason) -> Verdict
-    ensures { result ≡ Verdict.Rejected line reason }
-{
-    Verdict::Rejected { line, reason }
-}
-
-// A line of the tree. Whether there are further subtrees.
+// A line of the tree. Whether there are further subtrees, or why it fails.
 pub fn node_step(
     weights: &Weights,
     proof: &mut Proof,
     bound: i64,
     word: CertWord,
     numbers: &[i64],
-    number: u64,
-) -> Result<bool, Verdict>
-    requires kept { IsProof weights.now.size proof.old }
-    ensures kept { IfOk result (λ more. IsTrue more → IsProof weights.now.size proof.new) }
-    ensures cuts { proof.new.cuts ≡ proof.old.cuts }
-    ensures passes { IfOk result (λ more. Passes weights.now proof.old.cuts.items bound proof.old.trail.fixed (place proof.old) number word numbers.now (pending_if more (place proof.new))) }
-    ensures fails { IfErr result (Fails weights.now proof.old.cuts.items bound proof.old.trail.fixed (place proof.old) number word numbers.now) }
-    ensures room { IsRoomOf weights.now.size proof.new }
-    ensures cause { (before now : ℕ) → IfErr result (VerdictCause before now) }
+) -> Result<bool, Reason>
+    requires { IsProof weights.now.size proof.old }
+    ensures { TakesLine weights.now.size proof.old proof.new (node_test weights.now proof.old bound word numbers.now) result }
 {
     match word {
-        CertWord::SplitLine => split_step(weights, proof, bound, numbers, number),
-        CertWord::Leaf => leaf_step(weights, proof, bound, number, numbers),
-        _ => Err(rejected(number, Reason::Spelling)),
+        CertWord::SplitLine => split_step(weights.n(), proof, numbers),
+        CertWord::Leaf => leaf_step(weights, proof, bound, numbers),
+        _ => Err(Reason::Spelling),
     }
 }
 
@@ -111,28 +89,16 @@ fn split_of(n: u16, trail: &Trail, numbers: &[i64]) -> Option<Pair>
 }
 
 // A split: its pair is undecided, and the first child keeps it.
-fn split_step(
-    weights: &Weights,
-    proof: &mut Proof,
-    bound: i64,
-    numbers: &[i64],
-    number: u64,
-) -> Result<bool, Verdict>
-    requires kept { IsProof weights.now.size proof.old }
-    ensures kept { IfOk result (λ more. IsTrue more → IsProof weights.now.size proof.new) }
-    ensures cuts { proof.new.cuts ≡ proof.old.cuts }
-    ensures passes { IfOk result (λ more. Passes weights.now proof.old.cuts.items bound proof.old.trail.fixed (place proof.old) number words.SplitLine numbers.now (pending_if more (place proof.new))) }
-    ensures fails { IfErr result (Fails weights.now proof.old.cuts.items bound proof.old.trail.fixed (place proof.old) number words.SplitLine numbers.now) }
-    ensures room { IsRoomOf weights.now.size proof.new }
-    ensures cause { (before now : ℕ) → IfErr result (VerdictCause before now) }
+fn split_step(n: u16, proof: &mut Proof, numbers: &[i64]) -> Result<bool, Reason>
+    requires { IsProof n proof.old }
+    ensures { TakesLine n proof.old proof.new (split_test n proof.old numbers.now) result }
 {
-    let n = weights.n();
-    match split_of(n, &proof.trail, numbers) {
-        Some(pair) => match enter(n, &mut proof.steps, &mut proof.trail, pair) {
-            Ok(()) => Ok(true),
-            Err(_) => Err(Verdict::Memory),
-        },
-        None => Err(rejected(number, Reason::SplitLine)),
+    match split_of(n, &proof.walk.trail, numbers) {
+        Some(pair) => {
+            proof.walk.enter(pair);
+            Ok(true)
+        }
+        None => Err(Reason::SplitLine),
     }
 }
 
@@ -141,26 +107,20 @@ fn leaf_step(
     weights: &Weights,
     proof: &mut Proof,
     bound: i64,
-    number: u64,
     numbers: &[i64],
-) -> Result<bool, Verdict>
-    requires kept { IsProof weights.now.size proof.old }
-    ensures kept { IfOk result (λ more. IsTrue more → IsProof weights.now.size proof.new) }
-    ensures cuts { proof.new.cuts ≡ proof.old.cuts }
-    ensures passes { IfOk result (λ more. Passes weights.now proof.old.cuts.items bound proof.old.trail.fixed (place proof.old) number words.Leaf numbers.now (pending_if more (place proof.new))) }
-    ensures fails { IfErr result (Fails weights.now proof.old.cuts.items bound proof.old.trail.fixed (place proof.old) number words.Leaf numbers.now) }
-    ensures room { IsRoomOf weights.now.size proof.new }
-    ensures cause { (before now : ℕ) → IfErr result (VerdictCause before now) }
+) -> Result<bool, Reason>
+    requires { IsProof weights.now.size proof.old }
+    ensures { TakesLine weights.now.size proof.old proof.new (node_test weights.now proof.old bound words.Leaf numbers.now) result }
 {
     match numbers {
         [scale, told, terms @ ..] => {
             if !is_leaf_row(proof.cuts.len(), *scale, *told, terms) {
-                return Err(rejected(number, Reason::Leaf));
+                return Err(Reason::Leaf);
             }
             let scale = scale.unsigned_abs() as u32;
-            shown_step(weights, proof, bound, scale, terms, number)
+            shown_step(weights, proof, bound, scale, terms)
         }
-        _ => Err(rejected(number, Reason::Leaf)),
+        _ => Err(Reason::Leaf),
     }
 }
 
@@ -171,30 +131,24 @@ fn shown_step(
     bound: i64,
     scale: u32,
     terms: &[i64],
-    number: u64,
-) -> Result<bool, Verdict>
+) -> Result<bool, Reason>
     requires kept { IsProof weights.now.size proof.old }
     requires row { (scale ≤ 65536) × AreTerms (length proof.old.cuts.items) terms.now }
-    ensures kept { IfOk result (λ more. IsTrue more → IsProof weights.now.size proof.new) }
-    ensures cuts { proof.new.cuts ≡ proof.old.cuts }
-    ensures passes { IfOk result (λ more. (next : List (List Pair) → CheckAnswer) → shown weights.now proof.old scale terms.now bound number next ≡ next (pending_if more (place proof.new))) }
-    ensures fails { IfErr result (λ v. (next : List (List Pair) → CheckAnswer) → Says (shown weights.now proof.old scale terms.now bound number next) v) }
-    ensures room { IsRoomOf weights.now.size proof.new }
-    ensures cause { (before now : ℕ) → IfErr result (VerdictCause before now) }
+    ensures { TakesLine weights.now.size proof.old proof.new (shown_test weights.now proof.old bound scale terms.now) result }
 {
     let upper = upper(
         weights,
         proof.cuts.as_slice(),
-        &proof.trail,
+        &proof.walk.trail,
         &mut proof.charges,
         scale,
         terms,
     );
     let limit = limit_of(scale, bound);
     if upper < limit {
-        Ok(leave(weights.n(), &mut proof.steps, &mut proof.trail))
+        Ok(proof.walk.leave())
     } else {
-        Err(rejected(number, Reason::High { upper, limit }))
+        Err(Reason::High { upper, limit })
     }
 }
 

@@ -1,13 +1,13 @@
 // The walk down the tree and back, with the subtrees that are still to come.
-ghost use Rattle.std.specs.Prelude.{◌≡◌, ◌<◌, [], ◌∷◌, ◌++◌, List, OnOk, IsTrue, true, MatchBool};
+ghost use Rattle.std.specs.Prelude.{◌≡◌, ◌<◌, ◌++◌, [], ◌∷◌, List, IfOk, true, MatchBool};
 ghost use Rattle.lop_model.specs.Fixings.{IsUndecided};
 ghost use Rattle.lop_model.specs.Reversed.{reversed};
 ghost use Rattle.lop_certtext.specs.Answer.{may_split};
-ghost use Rattle.lop_check.specs.TreePlace.{place_after, stepped, pending, pending_if, IsWalk};
+ghost use Rattle.lop_check.specs.TreePlace.{place, stepped, pending, pending_if, IsRoot, IsWalk, HasRoom};
 
-use crate::trail::Trail;
+use crate::trail::{Trail, longest_path};
 use lop_model::Pair;
-use std::alloc::AllocError;
+use std::alloc::{AllocError, Global};
 
 // A step down the tree: the pair that is kept, and whether the subtree of its reverse is still to come.
 #[derive(Clone, Copy)]
@@ -37,66 +37,96 @@ pub fn may_split(trail: &Trail, pair: Pair) -> bool
         && !trail.is_fixed(pair.after, pair.before)
 }
 
-// One step down, to the first child.
-pub fn enter(n: u16, steps: &mut Vec<Step>, trail: &mut Trail, pair: Pair) -> Result<(), AllocError>
-    requires walk { IsWalk n steps.old.items trail.old }
-    requires undecided { IsUndecided n trail.old.path pair.before pair.after }
-    ensures at { OnOk result (place_after steps.new.items ≡ stepped (place_after steps.old.items) (record { pair = pair; reverse_due = true })) }
-    ensures walk { OnOk result (IsWalk n steps.new.items trail.new) }
-    ensures size { trail.new.size ≡ n }
-{
-    steps.push(Step {
-        pair,
-        reverse_due: true,
-    })?;
-    trail.descend(pair);
-    Ok(())
+// The steps down from the root, and the trail that follows them.
+#[derive(Drop)]
+pub struct Walk {
+    pub steps: Vec<Step>,
+    pub trail: Trail,
 }
 
-// Takes back the steps behind the last whose reverse is still to come. Whether there is one.
-fn drop_done(n: u16, steps: &mut Vec<Step>, trail: &mut Trail) -> bool
-    requires { IsWalk n steps.old.items trail.old }
-    ensures others { (place_after steps.new.items).others ≡ (place_after steps.old.items).others }
-    ensures walk { IsWalk n steps.new.items trail.new }
-    ensures last { MatchBool result ((front : List Step) × (last : Step) × (steps.new.items ≡ front ++ last ∷ []) × (last.reverse_due ≡ true)) (steps.new.items ≡ []) }
-{
-    while let Some(last) = steps.last() {
-        if last.reverse_due {
-            return true;
+impl Walk {
+    // At the root, with room for the longest path.
+    pub fn new(alloc: Global, n: u16) -> Result<Walk, AllocError>
+        ensures { IfOk result (IsRoot n) }
+    {
+        Ok(Walk {
+            steps: Vec::with_capacity(alloc, longest_path(n))?,
+            trail: Trail::new(alloc, n)?,
+        })
+    }
+
+    // Back at the root. O(n²).
+    pub fn restart(&mut self)
+        requires { HasRoom self.old }
+        ensures { IsRoot self.old.trail.size self.new }
+    {
+        self.steps.clear();
+        self.trail.clear();
+    }
+
+    // One step down, to the first child.
+    pub fn enter(&mut self, pair: Pair)
+        requires walk { IsWalk self.old }
+        requires undecided { IsUndecided self.old.trail.size self.old.trail.path pair.before pair.after }
+        ensures at { place self.new ≡ stepped (place self.old) (record { pair = pair; reverse_due = true }) }
+        ensures walk { IsWalk self.new }
+        ensures size { self.new.trail.size ≡ self.old.trail.size }
+    {
+        let step = Step {
+            pair,
+            reverse_due: true,
+        };
+        self.steps.push(step).unwrap();
+        self.trail.descend(pair);
+    }
+
+    // A subtree has ended. On to the next one, if there is one.
+    pub fn leave(&mut self) -> bool
+        requires { IsWalk self.old }
+        ensures next { pending_if result (place self.new) ≡ (place self.old).others }
+        ensures walk { IsWalk self.new }
+        ensures size { self.new.trail.size ≡ self.old.trail.size }
+    {
+        if !self.drop_done() {
+            return false;
         }
-        steps.pop();
-        trail.ascend();
+        self.turn();
+        true
     }
-    false
-}
 
-// Turns the last step round: its reverse is kept from now on.
-fn turn(n: u16, steps: &mut Vec<Step>, trail: &mut Trail)
-    requires walk { IsWalk n steps.old.items trail.old }
-    requires last { (front : List Step) × (last : Step) × (steps.old.items ≡ front ++ last ∷ []) × (last.reverse_due ≡ true) }
-    ensures others { pending (place_after steps.new.items) ≡ (place_after steps.old.items).others }
-    ensures walk { IsWalk n steps.new.items trail.new }
-{
-    let last = steps.len() - 1;
-    let pair = reverse(steps[last].pair);
-    steps[last] = Step {
-        pair,
-        reverse_due: false,
-    };
-    trail.ascend();
-    trail.descend(pair);
-}
-
-// A subtree has ended. On to the next one, if there is one.
-pub fn leave(n: u16, steps: &mut Vec<Step>, trail: &mut Trail) -> bool
-    requires { IsWalk n steps.old.items trail.old }
-    ensures next { pending_if result (place_after steps.new.items) ≡ (place_after steps.old.items).others }
-    ensures walk { IsTrue result → IsWalk n steps.new.items trail.new }
-    ensures size { trail.new.size ≡ n }
-{
-    if !drop_done(n, steps, trail) {
-        return false;
+    // Takes back the steps behind the last whose reverse is still to come. Whether there is one.
+    fn drop_done(&mut self) -> bool
+        requires { IsWalk self.old }
+        ensures others { (place self.new).others ≡ (place self.old).others }
+        ensures walk { IsWalk self.new }
+        ensures size { self.new.trail.size ≡ self.old.trail.size }
+        ensures last { MatchBool result ((front : List Step) × (last : Step) × (self.new.steps.items ≡ front ++ last ∷ []) × (last.reverse_due ≡ true)) (self.new.steps.items ≡ []) }
+    {
+        while let Some(last) = self.steps.last() {
+            if last.reverse_due {
+                return true;
+            }
+            self.steps.pop();
+            self.trail.ascend();
+        }
+        false
     }
-    turn(n, steps, trail);
-    true
+
+    // Turns the last step round: its reverse is kept from now on.
+    fn turn(&mut self)
+        requires walk { IsWalk self.old }
+        requires last { (front : List Step) × (last : Step) × (self.old.steps.items ≡ front ++ last ∷ []) × (last.reverse_due ≡ true) }
+        ensures others { pending (place self.new) ≡ (place self.old).others }
+        ensures walk { IsWalk self.new }
+        ensures size { self.new.trail.size ≡ self.old.trail.size }
+    {
+        let last = self.steps.len() - 1;
+        let pair = reverse(self.steps[last].pair);
+        self.steps[last] = Step {
+            pair,
+            reverse_due: false,
+        };
+        self.trail.ascend();
+        self.trail.descend(pair);
+    }
 }

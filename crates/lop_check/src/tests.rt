@@ -28,24 +28,33 @@ fn verdict_for(alloc: Global, n: u16, entries: &[i64], text: &str) -> Result<Ver
     Ok(check(&weights, &mut memory, &mut room))
 }
 
-// For 0 2 0, 0 0 2, 2 0 0.
-fn verdict(alloc: Global, text: &str) -> Result<Verdict, Fail> {
-    verdict_for(alloc, 3, &[0, 2, 0, 0, 0, 2, 2, 0, 0], text)
+// The first of the cases, each the end of a text that begins so, of which the checker says otherwise, and what it says.
+fn first_other(
+    alloc: Global,
+    n: u16,
+    entries: &[i64],
+    front: &str,
+    cases: &[(&str, Verdict)],
+) -> Result<Option<(usize, Verdict)>, Fail> {
+    for (index, (lines, expected)) in cases.iter().enumerate() {
+        let mut text = String::from_str(alloc, front)?;
+        text.push_str(lines)?;
+        let said = verdict_for(alloc, n, entries, &text)?;
+        if said != *expected {
+            return Ok(Some((index, said)));
+        }
+    }
+    Ok(None)
 }
 
-// The 3-fence with weight 2 on its nine arcs; the text goes on with the line of its cut.
-fn fence_verdict(alloc: Global, lines: &str) -> Result<Verdict, Fail> {
-    let entries: [i64; 36] = [
-        0, 0, 0, 2, 0, 0, 0, 0, 0, 0, 2, 0, 0, 0, 0, 0, 0, 2, 0, 2, 2, 0, 0, 0, 2, 0, 2, 0, 0, 0,
-        2, 2, 0, 0, 0, 0,
-    ];
-    let mut text = String::from_str(
-        alloc,
-        "lopcert 1\nobjects 6\norder 4 5 3 6 1 2\nvalue 14\nbound 14\ncuts 1\n",
-    )?;
-    text.push_str(lines)?;
-    verdict_for(alloc, 6, entries.as_slice(), &text)
-}
+// A tie of three objects.
+const TIE: [i64; 9] = [0, 2, 0, 0, 0, 2, 2, 0, 0];
+
+// The 3-fence with weight 2 on its nine arcs.
+const FENCE: [i64; 36] = [
+    0, 0, 0, 2, 0, 0, 0, 0, 0, 0, 2, 0, 0, 0, 0, 0, 0, 2, 0, 2, 2, 0, 0, 0, 2, 0, 2, 0, 0, 0, 2, 2,
+    0, 0, 0, 0,
+];
 
 fn rejected(line: u64, reason: Reason) -> Verdict {
     Verdict::Rejected { line, reason }
@@ -55,7 +64,7 @@ fn rejected(line: u64, reason: Reason) -> Verdict {
 fn a_certificate_is_accepted(rt: HostRuntime) -> Result<(), Fail> {
     let text = "lopcert 1\nobjects 3\norder 1 2 3\nvalue 4\nbound 6\ncuts 0\nleaf 1 0\nend\n";
     let accepted = Verdict::Accepted { value: 4, bound: 6 };
-    assert_eq!(rt; verdict(rt.alloc(), text)?, accepted);
+    assert_eq!(rt; verdict_for(rt.alloc(), 3, &TIE, text)?, accepted);
     Ok(())
 }
 
@@ -99,9 +108,7 @@ fn the_first_line_that_fails(rt: HostRuntime) -> Result<(), Fail> {
             rejected(9, Reason::Tail),
         ),
     ];
-    for (text, expected) in cases {
-        assert_eq!(rt; verdict(rt.alloc(), text)?, expected, "at {text}");
-    }
+    assert_eq!(rt; first_other(rt.alloc(), 3, &TIE, "", &cases)?, None);
     Ok(())
 }
 
@@ -122,14 +129,8 @@ fn a_cut_shows_the_bound(rt: HostRuntime) -> Result<(), Fail> {
         ("leaf 1 1 1 2\n", rejected(9, Reason::Short)),
         ("leaf 1 1 1 2\nend\nx\n", rejected(10, Reason::Tail)),
     ];
-    for (lines, expected) in cases {
-        let mut text = String::from_str(
-            rt.alloc(),
-            "lopcert 1\nobjects 3\norder 1 2 3\nvalue 4\nbound 4\ncuts 1\ndicycle 1 2 3\n",
-        )?;
-        text.push_str(lines)?;
-        assert_eq!(rt; verdict(rt.alloc(), &text)?, expected, "at {lines}");
-    }
+    let front = "lopcert 1\nobjects 3\norder 1 2 3\nvalue 4\nbound 4\ncuts 1\ndicycle 1 2 3\n";
+    assert_eq!(rt; first_other(rt.alloc(), 3, &TIE, front, &cases)?, None);
     Ok(())
 }
 
@@ -150,9 +151,8 @@ fn a_fence_and_two_wrong_ladders(rt: HostRuntime) -> Result<(), Fail> {
             rejected(7, Reason::Cut),
         ),
     ];
-    for (lines, expected) in cases {
-        assert_eq!(rt; fence_verdict(rt.alloc(), lines)?, expected, "at {lines}");
-    }
+    let front = "lopcert 1\nobjects 6\norder 4 5 3 6 1 2\nvalue 14\nbound 14\ncuts 1\n";
+    assert_eq!(rt; first_other(rt.alloc(), 6, &FENCE, front, &cases)?, None);
     Ok(())
 }
 
@@ -169,13 +169,8 @@ fn trees_of_three_and_four_leaves(rt: HostRuntime) -> Result<(), Fail> {
             rejected(11, Reason::SplitLine),
         ),
     ];
-    for (lines, expected) in cases {
-        let mut text = String::from_str(
-            rt.alloc(),
-            "lopcert 1\nobjects 3\norder 1 2 3\nvalue 4\nbound 4\ncuts 0\nsplit 1 2\nsplit 2 3\nleaf 1 0\nleaf 1 0\n",
-        )?;
-        text.push_str(lines)?;
-        assert_eq!(rt; verdict(rt.alloc(), &text)?, expected, "at {lines}");
-    }
+    let front =
+        "lopcert 1\nobjects 3\norder 1 2 3\nvalue 4\nbound 4\ncuts 0\nsplit 1 2\nsplit 2 3\nleaf 1 0\nleaf 1 0\n";
+    assert_eq!(rt; first_other(rt.alloc(), 3, &TIE, front, &cases)?, None);
     Ok(())
 }

@@ -1,11 +1,19 @@
 // The path to a node of the tree, what it fixes, and the way back.
-ghost use Rattle.std.specs.Prelude.{◌≡◌, ◌==◌, ◌<◌, ◌-◌, ◌++◌, [], ◌∷◌, length, take, IfOk};
+ghost use Rattle.std.specs.Prelude.{◌≡◌, ◌==◌, ◌<◌, ◌-◌, ◌*◌, ◌/◌, ◌++◌, [], ◌∷◌, length, take, IfOk};
 ghost use Rattle.lop_model.specs.Fixings.{has_pair, IsClosure, IsUndecided};
 
 use crate::depths::{clear, empty, is_fixed, note, take_back};
 use lop_model::Pair;
 use std::alloc::{AllocError, Global};
 use std::marker::Model;
+
+// How many pairs the longest path of n objects has: one of each two.
+pub fn longest_path(n: u16) -> usize
+    ensures { result ≡ n * (n - 1) / 2 }
+{
+    let size = n as usize;
+    size * size.saturating_sub(1) / 2
+}
 
 // A path and the pairs that it fixes. With each pair the depth at which the path fixed it is kept, so that the last
 // pair of the path can be taken off again.
@@ -33,11 +41,10 @@ impl Trail {
     pub fn new(alloc: Global, n: u16) -> Result<Trail, AllocError>
         ensures { IfOk result (λ t. t ≡ record { size = n; path = []; fixed = [] }) }
     {
-        let size = n as usize;
         Ok(Trail {
             size: n,
-            depths: empty(alloc, size)?,
-            path: Vec::with_capacity(alloc, size * size.saturating_sub(1) / 2)?,
+            depths: empty(alloc, n as usize)?,
+            path: Vec::with_capacity(alloc, longest_path(n))?,
         })
     }
 

@@ -1,10 +1,10 @@
 // The lines of the tree, and the end.
-ghost use Rattle.std.specs.Prelude.{◌≡◌, ◌+◌, [], ◌∷◌, IfOk, OnOk, IsTrue};
+ghost use Rattle.std.specs.Prelude.{◌≡◌, ◌+◌, [], ◌∷◌, OnOk};
 ghost use Rattle.lop_model.specs.Closing.{closed};
 ghost use Rattle.lop_certtext.specs.Answer.{accepted, end_step, tree_step};
 ghost use Rattle.lop_check.specs.Walk.{HandsOver, IsReading, spot};
-ghost use Rattle.lop_check.specs.TreePlace.{pending, pending_if};
-ghost use Rattle.lop_check.specs.Nodes.{IsProof, IsRoomOf, place};
+ghost use Rattle.lop_check.specs.TreePlace.{pending, pending_if, place};
+ghost use Rattle.lop_check.specs.Nodes.{IsProof};
 
 use crate::Verdict;
 use crate::header::Claim;
@@ -24,9 +24,9 @@ pub fn tree<D: Desk>(
 ) -> Result<(), Verdict>
     requires reading { IsReading (spot (D.told desk.old) (D.faults desk.old) reading.old) }
     requires kept { IsProof weights.now.size proof.old }
-    requires root { proof.old.steps.items ≡ [] }
+    requires root { proof.old.walk.steps.items ≡ [] }
     ensures reads { HandsOver (spot (D.told desk.old) (D.faults desk.old) reading.old) (spot (D.told desk.new) (D.faults desk.new) reading.new) (tree_step closed weights.now proof.old.cuts.items claim.value claim.bound ([] ∷ []) (reading.old.number + 1)) (λ _. end_step claim.value claim.bound (reading.new.number + 1)) result }
-    ensures room { IsRoomOf weights.now.size proof.new }
+    ensures kept { IsProof weights.now.size proof.new }
 {
     'lines: loop {
         if !tree_line(weights, desk, reading, claim, proof)? {
@@ -45,20 +45,15 @@ fn tree_line<D: Desk>(
 ) -> Result<bool, Verdict>
     requires reading { IsReading (spot (D.told desk.old) (D.faults desk.old) reading.old) }
     requires kept { IsProof weights.now.size proof.old }
-    ensures reads { HandsOver (spot (D.told desk.old) (D.faults desk.old) reading.old) (spot (D.told desk.new) (D.faults desk.new) reading.new) (tree_step closed weights.now proof.old.cuts.items claim.value claim.bound (pending (place proof.old)) (reading.old.number + 1)) (λ more. tree_step closed weights.now proof.new.cuts.items claim.value claim.bound (pending_if more (place proof.new)) (reading.new.number + 1)) result }
-    ensures kept { IfOk result (λ more. IsTrue more → IsProof weights.now.size proof.new) }
+    ensures reads { HandsOver (spot (D.told desk.old) (D.faults desk.old) reading.old) (spot (D.told desk.new) (D.faults desk.new) reading.new) (tree_step closed weights.now proof.old.cuts.items claim.value claim.bound (pending (place proof.old.walk)) (reading.old.number + 1)) (λ more. tree_step closed weights.now proof.new.cuts.items claim.value claim.bound (pending_if more (place proof.new.walk)) (reading.new.number + 1)) result }
+    ensures kept { IsProof weights.now.size proof.new }
     ensures number { OnOk result (reading.new.number ≡ reading.old.number + 1) }
-    ensures room { IsRoomOf weights.now.size proof.new }
 {
     let word = reading.line(desk)?;
-    node_step(
-        weights,
-        proof,
-        claim.bound,
-        word,
-        reading.numbers(),
-        reading.number(),
-    )
+    match node_step(weights, proof, claim.bound, word, reading.numbers()) {
+        Ok(more) => Ok(more),
+        Err(reason) => Err(reading.rejected(reason)),
+    }
 }
 
 // The end, behind which nothing may stand.

@@ -1,10 +1,10 @@
 // The number U of a leaf under the path.
-ghost use Rattle.std.specs.Prelude.{◌≡◌, ◌≤◌, ◌<◌, ◌+◌, ◌-◌, ◌*◌, ◌^◌, ℕ, true, length, pos, neg_ℤ, ◌≤ℤ◌, All};
+ghost use Rattle.std.specs.Prelude.{◌≡◌, ◌≤◌, ◌<◌, ◌*◌, ◌^◌, length, pos, neg_ℤ, ◌≤ℤ◌};
 ghost use Rattle.lop_model.specs.Sums.{pair_sum};
-ghost use Rattle.lop_cuts.specs.Kind.{IsCut, FitsCut};
 ghost use Rattle.lop_cuts.specs.Lagrangian.{lagrangian_value};
-ghost use Rattle.lop_certtext.specs.LeafLine.{are_rising, terms_of, terms_in};
+ghost use Rattle.lop_certtext.specs.LeafLine.{terms_of, terms_in};
 ghost use Rattle.lop_check.specs.Charges.{AreSmall, table_entry};
+ghost use Rattle.lop_check.specs.Nodes.{AreRightCuts, AreTerms};
 ghost use Rattle.lop_model.specs.Bound.{pair_value};
 
 use crate::charge::{charge_terms, clear_charges};
@@ -73,11 +73,8 @@ pub fn upper(
     scale: u32,
     numbers: &[i64],
 ) -> i128
-    requires scale { scale ≤ 65536 }
-    requires right { All IsCut cuts.now }
-    requires fit { All (FitsCut weights.now.size) cuts.now }
-    requires even { (told : ℕ) × (told ≤ 4096) × (length numbers.now ≡ 2 * told) }
-    requires rising { are_rising 0 (length cuts.now) (terms_of numbers.now) ≡ true }
+    requires row { (scale ≤ 65536) × AreTerms (length cuts.now) numbers.now }
+    requires cuts { AreRightCuts weights.now.size cuts.now }
     requires same_n { trail.now.size ≡ weights.now.size }
     requires square { length charges.old ≡ weights.now.size * weights.now.size }
     ensures value { result ≡ lagrangian_value weights.now trail.now.fixed scale (terms_in cuts.now (terms_of numbers.now)) }
@@ -87,6 +84,6 @@ pub fn upper(
 {
     let n = weights.n() as usize;
     clear_charges(charges, n);
-    let sides = charge_terms(cuts, numbers, numbers.len() / 2, charges, n);
+    let sides = charge_terms(cuts, numbers, charges, n);
     sides as i128 + pair_values(weights, trail, scale, charges)
 }

@@ -11,7 +11,7 @@ loop-arc-preserved c =
     let i = c.loop-arc.arc-index in
     let arcs = c.args.arcs.now in
     let zero : Pair = record { before = 0; after = 0 } in
-    let whole : length t ≡ n * n = c.loop-arc.invariant.same_length ∙ c.requires.square in
+    let whole : length t ≡ n * n = c.loop-arc.invariant.same_length ∙ c.requires.table.square in
     let below = c.requires.below i zero c.loop-arc-test.true in
     record {
       same_length = length-set t _ _ ∙ c.loop-arc.invariant.same_length;

@@ -6,15 +6,15 @@ use Rattle.lop_model.specs.Cells.{cell}
 use Rattle.lop_cuts.specs.Charges.{arc_count}
 use Rattle.lop_check.proofs.Charging.{side-le, once-le}
 use Rattle.lop_cuts.specs.Arcs.{arc}
+use Rattle.lop_check.specs.Charges.{AddsCharges}
 use Rattle.lop_check.proofs.charge.charge_term.Goals as goal
 
 pub charge_arcs-requires-clause-below : goal.charge_arcs-requires-clause-below
 charge_arcs-requires-clause-below c =
     subst (λ (xs : List Pair). All (IsArcBelow c.args.n) xs) (sym c.as_slice.ensures.value) (c.arcs.ensures.below c.args.n c.requires.fits)
 
-pub returns-clause-each : goal.returns-clause-each
-returns-clause-each c a b l m =
-    c.charge_arcs.ensures.each a b l m ∙ ap (λ (xs : List Pair). cell c.args.charges.now c.args.n a b + c.args.multiplier * arc_count a b xs) (c.as_slice.ensures.value ∙ c.arcs.ensures.items)
+pub returns-clause-adds : goal.returns-clause-adds
+returns-clause-adds c = subst (AddsCharges c.args.n c.args.charges.now c.charge_arcs.new.charges c.args.multiplier) (c.as_slice.ensures.value ∙ c.arcs.ensures.items) c.charge_arcs.ensures
 
 pub returns-clause-side : goal.returns-clause-side
 returns-clause-side c =

@@ -1,22 +1,21 @@
-use Rattle.std.proofs.Common.{◌≡◌, ap, sym, subst, List, ℕ, Some}
+use Rattle.std.proofs.Common.{◌≡◌, ◌∙◌, refl, ap, sym, subst, ℕ, Option, Some}
 use Rattle.lop_model.specs.declared.pair.Pair.{Pair}
-use Rattle.lop_certtext.specs.Answer.{split_of}
-use Rattle.lop_certtext.specs.declared.word.CertWord.TheVariants as words
+use Rattle.lop_certtext.specs.Answer.{split_of, split_step}
 use Rattle.lop_certtext.proofs.NodeText.{line-split_of}
-use Rattle.lop_check.specs.TreePlace.{pending}
-use Rattle.lop_check.specs.Nodes.{place, Passes}
-use Rattle.lop_check.proofs.NodeLemmas.{split_passes}
+use Rattle.lop_check.specs.TreePlace.{pending, place}
 use Rattle.lop_check.proofs.node.split_step.Goals as goal
 
 pub enter-requires-clause-undecided : goal.enter-requires-clause-undecided
 enter-requires-clause-undecided c =
-    let trail = c.args.proof.now.trail in
-    (line-split_of c.n-n.result trail.path trail.fixed c.args.numbers.now c.in-Some.pair c.requires.kept.walk.closure c.in-Some.ensures).undecided
+    let kept = c.requires in
+    let trail = c.args.proof.now.walk.trail in
+    (line-split_of trail.size trail.path trail.fixed c.args.numbers.now c.in-Some.pair kept.walk.follows.closure (subst (λ (n : ℕ). split_of n trail.fixed c.args.numbers.now ≡ Some c.in-Some.pair) (sym kept.size) c.in-Some.ensures)).undecided
 
-pub returns-in-Ok-clause-passes : goal.returns-in-Ok-clause-passes
-returns-in-Ok-clause-passes c =
-    let C = c.args.weights.now in
-    let at = place c.args.proof.now in
-    let trail = c.args.proof.now.trail in
-    let is : split_of C.size trail.fixed c.args.numbers.now ≡ Some c.in-Some.pair = subst (λ (n : ℕ). split_of n trail.fixed c.args.numbers.now ≡ Some c.in-Some.pair) c.n-n.ensures.size c.in-Some.ensures in
-    subst (λ (paths : List (List Pair)). Passes C c.args.proof.now.cuts.items c.args.bound trail.fixed at c.args.number words.SplitLine c.args.numbers.now paths) (ap pending (sym c.in-Ok.ensures.at)) (split_passes C c.args.proof.now.cuts.items c.args.bound trail.fixed at c.args.number c.args.numbers.now c.in-Some.pair is)
+pub returns-in-Some : goal.returns-in-Some
+returns-in-Some c =
+    let at = place c.args.proof.now.walk in
+    record {
+      kept = record { cuts = c.requires.cuts; walk = c.enter.ensures.walk; size = c.enter.ensures.size ∙ c.requires.size; square = c.requires.square };
+      cuts = refl;
+      answer = λ number next. ap (λ (o : Option Pair). split_step at.path at.others number o next) c.in-Some.ensures ∙ ap (λ p. next (pending p)) (sym c.enter.ensures.at);
+    }

@@ -3,8 +3,7 @@ use Rattle.lop_model.specs.declared.pair.Pair.{Pair}
 use Rattle.lop_model.specs.Closing.{closed}
 use Rattle.lop_certtext.specs.Answer.{tree_step}
 use Rattle.lop_check.specs.declared.path.Step.{Step}
-use Rattle.lop_check.specs.TreePlace.{pending, place_after}
-use Rattle.lop_check.specs.Nodes.{place}
+use Rattle.lop_check.specs.TreePlace.{pending, place, place_after}
 use Rattle.lop_check.proofs.Walk.{left_off, passes, stays, then_on, then_ends}
 use Rattle.lop_check.proofs.TreeWalk.{left_if, left_none}
 use Rattle.lop_check.proofs.tree.tree.Goals as goal
@@ -21,15 +20,15 @@ returns-in_err-tree_line-clause-reads g c = left_off _ _ _ _ _ _ c.from_residual
 
 pub returns-then-not-branch-clause-reads : goal.returns-then-not-branch-clause-reads
 returns-then-not-branch-clause-reads g c =
-    let none = left_none c.in_ok-tree_line.field-0 (place c.tree_line.new.proof) c.if-not-branch.true in
+    let none = left_none c.in_ok-tree_line.field-0 (place c.tree_line.new.proof.walk) c.if-not-branch.true in
     then_on _ _ _ _ _ _ c.lines.invariant.so_far
     (passes _ _ _ _ _ (λ lines. ap (λ (l : List (List Pair)). tree_step closed c.args.weights.now c.tree_line.new.proof.cuts.items c.args.claim.value c.args.claim.bound l (c.tree_line.new.reading.number + 1) lines) none) c.in_ok-tree_line.ensures.reads)
 
 pub lines-preserved : goal.lines-preserved
 lines-preserved g c =
-    let more = left_if c.in_ok-tree_line.field-0 (place c.tree_line.new.proof) c.if-not-branch.false in
+    let more = left_if c.in_ok-tree_line.field-0 (place c.tree_line.new.proof.walk) c.if-not-branch.false in
     record {
-      kept = c.in_ok-tree_line.ensures.kept c.if-not-branch.false;
+      kept = c.in_ok-tree_line.ensures.kept;
       so_far = then_on _ _ _ _ _ _ c.lines.invariant.so_far
           (passes _ _ _ _ _ (λ lines. ap (λ (l : List (List Pair)). tree_step closed c.args.weights.now c.tree_line.new.proof.cuts.items c.args.claim.value c.args.claim.bound l (c.tree_line.new.reading.number + 1) lines) more) c.in_ok-tree_line.ensures.reads);
     }

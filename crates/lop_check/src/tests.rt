@@ -61,14 +61,6 @@ fn rejected(line: u64, reason: Reason) -> Verdict {
 }
 
 #[test]
-fn a_certificate_is_accepted(rt: HostRuntime) -> Result<(), Fail> {
-    let text = "lopcert 1\nobjects 3\norder 1 2 3\nvalue 4\nbound 6\ncuts 0\nleaf 1 0\nend\n";
-    let accepted = Verdict::Accepted { value: 4, bound: 6 };
-    assert_eq!(rt; verdict_for(rt.alloc(), 3, &TIE, text)?, accepted);
-    Ok(())
-}
-
-#[test]
 fn the_first_line_that_fails(rt: HostRuntime) -> Result<(), Fail> {
     let stated = Reason::Value {
         stated: 5,
@@ -106,6 +98,10 @@ fn the_first_line_that_fails(rt: HostRuntime) -> Result<(), Fail> {
         (
             "lopcert 1\nobjects 3\norder 1 2 3\nvalue 4\nbound 6\ncuts 0\nleaf 1 0\nend\nx\n",
             rejected(9, Reason::Tail),
+        ),
+        (
+            "lopcert 1\nobjects 3\norder 1 2 3\nvalue 4\nbound 6\ncuts 0\nleaf 1 0\nend\n",
+            Verdict::Accepted { value: 4, bound: 6 },
         ),
     ];
     assert_eq!(rt; first_other(rt.alloc(), 3, &TIE, "", &cases)?, None);

@@ -1,14 +1,17 @@
 //! The pool on a three-fence: what a search leaves, and that workers run beside each other.
+mod worst;
+
 ghost use Rattle.std.specs.Prelude.{◌≡◌, ◌≤◌, vec_len, All, IfOk};
 
 use crate::{Gate, OpenGate, Pool, SearchEnd};
 use lop_core::Core;
 use lop_model::{Order, Weights};
-use lop_node::PackJudge;
+use lop_node::{Judge, PackJudge};
 use std::alloc::{AllocError, Global};
 use std::sync::atomic::{AtomicBool, Ordering};
 use std::test::Fail;
 use std::thread::{Threads, yield_now};
+use worst::WorstJudge;
 
 // One judge for n objects.
 fn one(alloc: Global, n: u16) -> Result<Vec<PackJudge>, AllocError>
@@ -30,18 +33,36 @@ fn two(alloc: Global, n: u16) -> Result<Vec<PackJudge>, AllocError>
     Ok(judges)
 }
 
-// A three-fence with weight 2 on each of its nine arcs, searched from an order of weight 14: how the search ends, how
-// many nodes were evaluated, best and the bound.
-fn searched<R: Threads + Sync, G: Gate>(
+// Two of the worst judges for n objects.
+fn two_worst(alloc: Global, n: u16) -> Result<Vec<WorstJudge>, AllocError>
+    ensures count { IfOk result (λ v. vec_len v ≡ 2) }
+    ensures same_n { IfOk result (λ v. All (λ j. j ≡ n) v.items) }
+{
+    let mut judges = Vec::new(alloc);
+    judges.push(WorstJudge::new(alloc, n)?)?;
+    judges.push(WorstJudge::new(alloc, n)?)?;
+    Ok(judges)
+}
+
+// An order of weight 14.
+const GOOD: [u16; 6] = [3, 4, 2, 5, 0, 1];
+
+// The order of the objects' numbers: it weighs 6.
+const FIRST: [u16; 6] = [0, 1, 2, 3, 4, 5];
+
+// A three-fence with weight 2 on each of its nine arcs, searched from an order: how the search ends, how many nodes
+// were evaluated, best and the bound.
+fn searched<R: Threads + Sync, J: Judge, G: Gate>(
     rt: &R,
     alloc: Global,
-    judges: Vec<PackJudge>,
+    judges: Vec<J>,
+    start: [u16; 6],
     budget: u32,
     gate: &G,
 ) -> Result<Option<(SearchEnd, u32, i128, i128)>, Fail>
     requires some { 1 ≤ vec_len judges }
     requires at_most { vec_len judges ≤ 16 }
-    requires same_n { All (λ j. j ≡ 6) judges.items }
+    requires same_n { All (λ j. J.objects j ≡ 6) judges.items }
     requires positive { 1 ≤ budget }
     requires within_limit { budget ≤ 1000000 }
 {
@@ -53,8 +74,7 @@ fn searched<R: Threads + Sync, G: Gate>(
         2, 0, 2, 0, 0, 0, //
         2, 2, 0, 0, 0, 0, //
     ];
-    let objects: [u16; 6] = [3, 4, 2, 5, 0, 1];
-    let Ok(order) = Order::of_list(objects.to_vec(alloc)?, 6) else {
+    let Ok(order) = Order::of_list(start.to_vec(alloc)?, 6) else {
         return Ok(None);
     };
     let Ok(weights) = Weights::new(6, entries.to_vec(alloc)?) else {
@@ -74,8 +94,24 @@ fn searched<R: Threads + Sync, G: Gate>(
 fn one_node(rt: HostRuntime) -> Result<(), Fail> {
     let spent = Some((SearchEnd::Spent, 1, 14, 18));
     let alloc = rt.alloc();
-    assert_eq!(rt; searched(&rt, alloc, one(alloc, 6)?, 1, &OpenGate)?, spent);
-    assert_eq!(rt; searched(&rt, alloc, two(alloc, 6)?, 1, &OpenGate)?, spent);
+    assert_eq!(rt;
+        searched(&rt, alloc, one(alloc, 6)?, GOOD, 1, &OpenGate)?,
+        spent
+    );
+    assert_eq!(rt;
+        searched(&rt, alloc, two(alloc, 6)?, GOOD, 1, &OpenGate)?,
+        spent
+    );
+    Ok(())
+}
+
+// The worst judges find the best order at last, and close the tree: 2 · 6! - 1 nodes are the most that it can have.
+#[test]
+fn worst_judges(rt: HostRuntime) -> Result<(), Fail> {
+    let alloc = rt.alloc();
+    let judges = two_worst(alloc, 6)?;
+    let found = searched(&rt, alloc, judges, FIRST, 2000, &OpenGate)?;
+    assert!(rt; matches!(found, Some((SearchEnd::Closed, 1..=1439, 14, 14))));
     Ok(())
 }
 
@@ -125,7 +161,10 @@ fn workers_beside_each_other(rt: HostRuntime) -> Result<(), Fail> {
     };
     let spent = Some((SearchEnd::Spent, 3, 14, 16));
     let alloc = rt.alloc();
-    assert_eq!(rt; searched(&rt, alloc, two(alloc, 6)?, 3, &gate)?, spent);
+    assert_eq!(rt;
+        searched(&rt, alloc, two(alloc, 6)?, GOOD, 3, &gate)?,
+        spent
+    );
     assert!(rt; gate.first_met.load(Ordering::SeqCst));
     assert!(rt; gate.second_met.load(Ordering::SeqCst));
     Ok(())

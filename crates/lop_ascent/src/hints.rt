@@ -8,9 +8,9 @@ ghost use Rattle.lop_ascent.specs.Places.{IsPlaceIn, IsSpanIn};
 use crate::objective::{ONE, Variable};
 use crate::place::Place;
 use crate::room::MAX_ROWS;
-use crate::rows::{Row, slack_of};
+use crate::rows::{MAX_MULTIPLIER, Row, slack_of};
 use crate::span::Span;
-use lop_cuts::Cut;
+use lop_cuts::{Cut, CutKind};
 use std::alloc::{AllocError, Global};
 
 /// The greatest hint: the greatest multiplier, shifted by 16 bits.
@@ -29,12 +29,64 @@ pub fn has_cut(cuts: &[Cut], cut: &Cut) -> bool
     false
 }
 
+/// Whether two cuts are equal. Most that differ show it at a glance.
 #[inline]
 fn is_same(first: &Cut, second: &Cut) -> bool
     ensures equal { result ≡ true → first.now ≡ second.now }
     ensures unequal { result ≡ false → first.now ≢ second.now }
 {
+    if is_like(first.kind(), second.kind()) {
+        is_equal(first, second)
+    } else {
+        false
+    }
+}
+
+#[inline]
+fn is_equal(first: &Cut, second: &Cut) -> bool
+    ensures equal { result ≡ true → first.now ≡ second.now }
+    ensures unequal { result ≡ false → first.now ≢ second.now }
+{
     *first == *second
+}
+
+/// Whether two cuts are of the same kind, and dicycles of the same objects. O(1).
+#[inline]
+fn is_like(first: &CutKind, second: &CutKind) -> bool
+    ensures unequal { result ≡ false → first.now ≢ second.now }
+{
+    match first {
+        CutKind::Dicycle([a, b, c]) => match second {
+            CutKind::Dicycle([d, e, f]) => *a == *d && *b == *e && *c == *f,
+            CutKind::Fence { u: _, w: _ } | CutKind::Ladder(_) => false,
+        },
+        CutKind::Fence { u: _, w: _ } => match second {
+            CutKind::Fence { u: _, w: _ } => true,
+            CutKind::Dicycle(_) | CutKind::Ladder(_) => false,
+        },
+        CutKind::Ladder(_) => match second {
+            CutKind::Ladder(_) => true,
+            CutKind::Dicycle(_) | CutKind::Fence { u: _, w: _ } => false,
+        },
+    }
+}
+
+/// Adds to the multiplier of the row of an equal cut. O(rows).
+pub fn raise_equal(rows: &mut [Row], cuts: &[Cut], cut: &Cut, by: i64)
+    requires { length rows.old ≡ length cuts.now }
+{
+    for k in 0..cuts.len() {
+        if is_same(&cuts[k], cut) {
+            raise(&mut rows[k], by);
+        }
+    }
+}
+
+/// Adds to a row's multiplier, up to the greatest one.
+fn raise(row: &mut Row, by: i64) {
+    let more = row.kept.saturating_add(by).min(MAX_MULTIPLIER);
+    row.now = more;
+    row.kept = more;
 }
 
 /// The multiplier of a record, in units of 2^-32, and at least 0.

@@ -2,7 +2,8 @@ ghost use Rattle.std.specs.Prelude.{◌≡◌, ◌≢◌, ◌+◌, ◌<◌, ◌�
 ghost use Rattle.lop_cuts.specs.Kind.{FitsCut};
 
 use crate::hints::{
-    has_cut, least_kept, no_hints, push_cut, push_row, remove_idle, set_hint, write_hints,
+    has_cut, least_kept, no_hints, push_cut, push_row, raise_equal, remove_idle, set_hint,
+    write_hints,
 };
 use crate::objective::{Scale, Variable, load_variables, scale_of};
 use crate::place::{Place, cells_for};
@@ -128,7 +129,8 @@ impl AscentRoom {
         self.entries.clear();
     }
 
-    /// Appends a cut, with a multiplier of a record of that scale, or 0.
+    /// Appends a cut, with a multiplier of a record of that scale, or 0. Where an equal cut is a row, its multiplier
+    /// rises by that. O(rows).
     pub fn add_row(&mut self, cut: &Cut, multiplier: u64, scale: u32) -> RowReply
         requires fits { FitsCut self.old.size cut.now }
         requires scale { 1 ≤ scale }
@@ -136,6 +138,7 @@ impl AscentRoom {
         ensures reply { IsRowReply cut.now self.old.cuts self.new.cuts result }
     {
         if has_cut(&self.cuts, cut) {
+            self.raise(cut, multiplier, scale);
             return RowReply::Present;
         }
         if self.rows.len() >= MAX_ROWS {
@@ -153,6 +156,18 @@ impl AscentRoom {
         );
         push_cut(&mut self.cuts, cut);
         RowReply::Added
+    }
+
+    /// Adds to the multiplier of the row of an equal cut. O(rows).
+    fn raise(&mut self, cut: &Cut, multiplier: u64, scale: u32)
+        requires scale { 1 ≤ scale }
+        ensures size { self.new.size ≡ self.old.size }
+        ensures same_cuts { self.new.cuts ≡ self.old.cuts }
+    {
+        if multiplier > 0 {
+            let by = self.scale.multiplier(multiplier, scale);
+            raise_equal(&mut self.rows, &self.cuts, cut, by);
+        }
     }
 
     /// Takes out the rows that are idle at the point and the kept multipliers. O(entries).

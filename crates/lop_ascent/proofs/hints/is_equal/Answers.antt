@@ -1,5 +1,5 @@
 use Rattle.std.proofs.Common.{◌≡◌, true}
-use Rattle.lop_ascent.proofs.hints.is_same.Goals as goal
+use Rattle.lop_ascent.proofs.hints.is_equal.Goals as goal
 
 pub returns-clause-equal : goal.returns-clause-equal
 returns-clause-equal c = λ t. c.eq.ensures.same.0 t

@@ -6,7 +6,7 @@ use Rattle.std.proofs.lemmas.List.Quantifiers.{Any-push}
 use Rattle.std.proofs.lemmas.Bool.{false≢true, eqb-true}
 use Rattle.lop_core.specs.declared.journal.Entry.{Entry}
 use Rattle.lop_core.specs.declared.journal.Entry.TheVariants.{Take, Report}
-use Rattle.lop_core.specs.Journal.{worker_of, entries_of, takes, HasTake}
+use Rattle.lop_core.specs.Journal.{worker_of, entries_of, takes, reports, HasTake, HasReport}
 use Rattle.lop_turn.specs.Lists.{entries_by}
 use Rattle.lop_pool.specs.declared.event.Event.{Event}
 use Rattle.lop_pool.specs.Events.{events_after, events_of, event_worker, events_by, IsGrown}
@@ -23,7 +23,7 @@ events_after-push before (x ∷ xs) e =
 pub events_of-push : (journal : List Entry) (e : Entry) → events_of (journal ++ e ∷ []) ≡ events_of journal ++ record { before = journal; entry = e } ∷ []
 events_of-push journal e = events_after-push [] journal e
 
-all_one : {X : Type 0} (P : X → Type 0) (x : X) → P x → All P (x ∷ [])
+pub all_one : {X : Type 0} (P : X → Type 0) (x : X) → P x → All P (x ∷ [])
 all_one P x p zero d lt = p
 all_one P x p (suc k) d lt = absurd (omega arith)
 
@@ -38,7 +38,7 @@ cons_all : {X : Type 0} (P : X → Type 0) (x : X) (xs : List X) → P x → All
 cons_all P x xs p all zero d lt = p
 cons_all P x xs p all (suc k) d lt = all k d (omega arith)
 
-all_append : {X : Type 0} (P : X → Type 0) (xs ys : List X) → All P xs → All P ys → All P (xs ++ ys)
+pub all_append : {X : Type 0} (P : X → Type 0) (xs ys : List X) → All P xs → All P ys → All P (xs ++ ys)
 all_append P [] ys a b = b
 all_append P (x ∷ xs) ys a b = cons_all P x (xs ++ ys) (a zero x (omega arith)) (all_append P xs ys (λ k d lt. a (suc k) d (omega arith)) b)
 
@@ -120,6 +120,13 @@ took_cases worker node journal e h =
     let split : Any (λ x. takes node x ≡ true) (entries_of worker journal ++ entries_of worker (e ∷ [])) = subst (Any (λ x. takes node x ≡ true)) (filter-append (λ x. worker_of x == worker) journal (e ∷ [])) h in
     elim (any_cases (λ x. takes node x ≡ true) (entries_of worker journal) (entries_of worker (e ∷ [])) split.0 split.1 split.2 split.3 split.4)
     [ inl a ↦ inl a | inr b ↦ inr (one_cond (λ x. takes node x ≡ true) (worker_of e == worker) e b) ]
+
+-- a worker that reported a node by one more entry had reported it before, or the entry is the report
+pub reported_cases : (worker node : ℕ) (journal : List Entry) (e : Entry) → HasReport node (entries_of worker (journal ++ e ∷ [])) → HasReport node (entries_of worker journal) ⊎ (reports node e ≡ true)
+reported_cases worker node journal e h =
+    let split : Any (λ x. reports node x ≡ true) (entries_of worker journal ++ entries_of worker (e ∷ [])) = subst (Any (λ x. reports node x ≡ true)) (filter-append (λ x. worker_of x == worker) journal (e ∷ [])) h in
+    elim (any_cases (λ x. reports node x ≡ true) (entries_of worker journal) (entries_of worker (e ∷ [])) split.0 split.1 split.2 split.3 split.4)
+    [ inl a ↦ inl a | inr b ↦ inr (one_cond (λ x. reports node x ≡ true) (worker_of e == worker) e b) ]
 
 -- after its take of a node a worker has taken it
 pub took_last : (worker node : ℕ) (before : List Entry) → HasTake node (entries_of worker (before ++ Take worker node ∷ []))

@@ -1,5 +1,5 @@
 -- What a worker holds stays so, whatever the others do.
-use Rattle.std.proofs.Common.{◌≡◌, ℕ, ◌+◌, inl, inr, List, [], ◌∷◌, ◌++◌, arith, sym, ◌∙◌, Some, None, Option, refl, ap, subst, Bool, true, false, cond, suc}
+use Rattle.std.proofs.Common.{◌≡◌, ◌≢◌, ℕ, ◌+◌, inl, inr, List, [], ◌∷◌, ◌++◌, get_or, arith, sym, ◌∙◌, Some, None, Option, refl, ap, subst, Bool, true, false, cond, suc}
 use Rattle.std.specs.Prelude.{slice_get, ℤ, pos, ◌≤ℤ◌, map, ◌==◌, int_lt}
 use Rattle.std.specs.Int.{int_max}
 use Rattle.std.proofs.lemmas.Int.{ints, clamps}
@@ -19,8 +19,8 @@ use Rattle.lop_core.specs.declared.reply.TakeReply.{TakeReply}
 use Rattle.lop_core.specs.declared.reply.TakeReply.TheVariants.{Node, Done, AllOut, Spent}
 use Rattle.lop_core.specs.Tree.{node_at, path_of, is_out, is_split, out_count}
 use Rattle.lop_core.specs.Machine.{Problem, SearchState, closed, divided, settled, after, IsOutTo}
-use Rattle.lop_core.specs.Journal.{replay, entries_of, HasTake, HasReport, IsLawfulJournal}
-use Rattle.lop_core.specs.Core.{CoreFields, HasHistory, IsTake, IsSoundReport, IsReported, with_entry, entry_of, has_room_for}
+use Rattle.lop_core.specs.Journal.{replay, entries_of, takes, reports, HasTake, HasReport, MayTake, IsLawfulJournal}
+use Rattle.lop_core.specs.Core.{CoreFields, HasHistory, IsTake, IsTicketOf, IsSoundReport, IsReported, with_entry, entry_of, has_room_for}
 use Rattle.lop_core.specs.Workers.{StandsStill}
 use Rattle.lop_core.proofs.Lists.{EachFollows-push}
 use Rattle.lop_core.proofs.Sound.{one_if, count_changed}
@@ -29,12 +29,13 @@ use Rattle.lop_core.proofs.CoreLemmas.{core_out, core_counted}
 use Rattle.lop_core.proofs.Alone.{ready_alone}
 use Rattle.lop_core.proofs.Workers.{lawful_start, Any_more, report_apart, out_stands_still}
 use Rattle.lop_pool.specs.declared.event.Event.{Event}
+use Rattle.lop_pool.specs.declared.parcel.Parcel.{Parcel}
 use Rattle.lop_pool.specs.declared.end.SearchEnd.TheVariants as ends
 use Rattle.lop_pool.specs.Events.{events_of, event_worker, events_by, IsGrown}
 use Rattle.lop_pool.specs.Judged.{Relation, IsJudged, AreJudged, IsJudgedResult}
-use Rattle.lop_pool.specs.Holding.{HasNone, HasOnly, HasTicket, HasResult, WhateverElse}
+use Rattle.lop_pool.specs.Holding.{HasNone, HasTickets, HasBeside, IsHanded, WhateverElse}
 use Rattle.lop_pool.specs.Ends.{NoneLive, IsSpent, IsEnd}
-use Rattle.lop_pool.proofs.EventLemmas.{entries_told, same_entries, IsIn, in_filter, in_prefix, took_at, is_take, took_cases, took_last, grown_same, grown_push}
+use Rattle.lop_pool.proofs.EventLemmas.{entries_told, same_entries, IsIn, in_filter, in_prefix, took_at, is_take, took_cases, reported_cases, took_last, grown_same, grown_push}
 
 -- ---- two journals in which a worker's events are the same
 
@@ -77,13 +78,16 @@ alike problem h j worker node lh lj e out =
 pub none_kept : (problem : Problem) (journal : List Entry) (worker : ℕ) → IsLawfulJournal problem journal → HasNone worker (replay problem journal) → WhateverElse problem worker (events_by worker journal) (HasNone worker)
 none_kept problem journal worker lawful none = λ j lj e node out. none node (alike problem j journal worker node lj lawful e out).is_out
 
-pub ticket_kept : (problem : Problem) (journal : List Entry) (worker : ℕ) (t : TicketFields) → IsLawfulJournal problem journal → HasTicket worker t (replay problem journal) → WhateverElse problem worker (events_by worker journal) (HasTicket worker t)
-ticket_kept problem journal worker t lawful has = λ j lj e.
-    let same = alike problem journal j worker t.node lawful lj (sym e) has.only.is_out in
+pub tickets_kept : (problem : Problem) (journal : List Entry) (worker : ℕ) (parcels : List Parcel) (from to : ℕ) → IsLawfulJournal problem journal → HasTickets worker parcels from to (replay problem journal)
+    → WhateverElse problem worker (events_by worker journal) (HasTickets worker parcels from to)
+tickets_kept problem journal worker parcels from to lawful has = λ j lj e.
     record {
-      only = record { is_out = same.is_out; only = λ other out. has.only.only other (alike problem j journal worker other lj lawful e out).is_out };
-      bound = has.bound ∙ sym same.bound;
-      path = has.path ∙ sym same.path;
+      each = λ k d lo hi.
+          let one = has.each k d lo hi in
+          let same = alike problem journal j worker (get_or parcels k d).ticket.node lawful lj (sym e) one.is_out in
+          record { is_out = same.is_out; bound = one.bound ∙ sym same.bound; path = one.path ∙ sym same.path };
+      apart = has.apart;
+      only = λ node out. has.only node (alike problem j journal worker node lj lawful e out).is_out;
     }
 
 -- ---- what a judge found
@@ -96,14 +100,6 @@ judged_result judged C s t found bound path sound shown = record {
   path = path ∙ ap (λ (k : ℕ). path_of s.nodes k) (sym sound.node);
   sound = sound;
   shown = shown;
-}
-
--- the worker of a ticket holds the result that its judge found
-pub has_result : (judged : Relation) (C : Matrix) (worker : ℕ) (t : TicketFields) (found : EvaluatedFields) (s : SearchState) → HasTicket worker t s
-    → IsSoundResult C t found → judged C t.path found.bound found.pair found.value → HasResult judged C worker found s
-has_result judged C worker t found s has sound shown = record {
-  only = subst (λ (k : ℕ). HasOnly worker k s) (sym sound.node) has.only;
-  result = judged_result judged C s t found has.bound has.path sound shown;
 }
 
 pub sound_report : (judged : Relation) (core : CoreFields) (found : EvaluatedFields) → IsJudgedResult judged core.problem.weights core.state found → IsSoundReport core found
@@ -171,34 +167,59 @@ best_rises s (Report worker node bound pair value room) =
 pub report_best : (old new : CoreFields) (worker : ℕ) (found : EvaluatedFields) → IsReported old worker found new → old.state.best ≤ℤ new.state.best
 report_best old new worker found told = subst (λ (x : CoreFields). old.state.best ≤ℤ x.state.best) (sym told.noted) (best_rises old.state (entry_of old worker found))
 
--- after its report the worker has no node
-pub report_none : (old new : CoreFields) (worker : ℕ) (found : EvaluatedFields) → HasHistory old → HasHistory new → IsReported old worker found new → HasOnly worker found.node old.state → HasNone worker new.state
-report_none old new worker found h g told only = λ node out.
-    let e : Entry = entry_of old worker found in
-    let later = (core_out new worker node g).0 out in
-    let grown : new.journal ≡ old.journal ++ entry_of old worker found ∷ [] = ap (λ (x : CoreFields). x.journal) told.noted in
-    let took : HasTake node (entries_of worker (old.journal ++ entry_of old worker found ∷ [])) = subst (λ (j : List Entry). HasTake node (entries_of worker j)) grown later.0 in
-    let open_still : ¬ (HasReport node (entries_of worker (old.journal ++ entry_of old worker found ∷ []))) = λ r. later.1 (subst (λ (j : List Entry). HasReport node (entries_of worker j)) (sym grown) r) in
-    elim (took_cases worker node old.journal (entry_of old worker found) took) [
-      | inl t ↦
-          let before : IsOutTo old.state worker node = (core_out old worker node h).1 (t, λ r. open_still (Any_more worker old.journal (entry_of old worker found ∷ []) r)) in
-          report_apart old.state old.journal worker found.node found.bound found.pair found.value (has_room_for old found) worker node only.is_out before open_still (only.only node before)
-      | inr t ↦ absurd (false≢true t)
-    ]
+-- ---- what one more entry leaves of the worker's other nodes
 
--- after its take a worker that had no node has that one alone
-pub take_only : (old new : CoreFields) (worker node : ℕ) → HasHistory old → HasHistory new → new ≡ with_entry old (Take worker node) old.order → IsOutTo new.state worker node → HasNone worker old.state → HasOnly worker node new.state
-take_only old new worker node h g noted is none = record {
-  is_out = is;
-  only = λ other out.
-      let later = (core_out new worker other g).0 out in
-      let grown : new.journal ≡ old.journal ++ Take worker node ∷ [] = ap (λ (x : CoreFields). x.journal) noted in
-      let took : HasTake other (entries_of worker (old.journal ++ Take worker node ∷ [])) = subst (λ (j : List Entry). HasTake other (entries_of worker j)) grown later.0 in
-      let open_still : ¬ (HasReport other (entries_of worker (old.journal ++ Take worker node ∷ []))) = λ r. later.1 (subst (λ (j : List Entry). HasReport other (entries_of worker j)) (sym grown) r) in
-      elim (took_cases worker other old.journal (Take worker node) took) [
-        | inl t ↦ absurd (none other ((core_out old worker other h).1 (t, λ r. open_still (Any_more worker old.journal (Take worker node ∷ []) r))))
-        | inr t ↦ sym (eqb-true node other t)
-      ];
+pub beside : (old new : CoreFields) (worker node : ℕ) (e : Entry) → HasHistory old → HasHistory new → new.problem ≡ old.problem → new.journal ≡ old.journal ++ e ∷ [] → ((other : ℕ) → takes other e ≡ true → other ≡ node)
+    → ((other : ℕ) → reports other e ≡ true → other ≡ node) → HasBeside worker node old.state new.state
+beside old new worker node e h g same grown take report =
+    let keeps : (other : ℕ) → other ≢ node → IsOutTo old.state worker other → IsOutTo new.state worker other = λ other ne out.
+    let before = (core_out old worker other h).0 out in
+    (core_out new worker other g).1 (
+      subst (λ (j : List Entry). HasTake other (entries_of worker j)) (sym grown) (Any_more worker old.journal (e ∷ []) before.0),
+      λ r. elim (reported_cases worker other old.journal e (subst (λ (j : List Entry). HasReport other (entries_of worker j)) grown r)) [ inl a ↦ before.1 a | inr b ↦ ne (report other b) ],
+    ) in
+    record {
+      stays = keeps;
+      stands = λ other ne out.
+          let whole : IsLawfulJournal old.problem (old.journal ++ e ∷ []) = subst (IsLawfulJournal old.problem) grown (subst (λ (q : Problem). IsLawfulJournal q new.journal) same g.lawful) in
+          let now : new.state ≡ replay old.problem (old.journal ++ e ∷ []) = g.replayed ∙ (ap (λ (q : Problem). replay q new.journal) same ∙ ap (replay old.problem) grown) in
+          let early : IsOutTo (replay old.problem old.journal) worker other = subst (λ (s : SearchState). IsOutTo s worker other) h.replayed out in
+          let late : IsOutTo (replay old.problem (old.journal ++ e ∷ [])) worker other = subst (λ (s : SearchState). IsOutTo s worker other) now (keeps other ne out) in
+          let still = out_stands_still old.problem old.journal (e ∷ []) worker other whole early late in
+          subst (λ (s : SearchState). StandsStill s new.state other) (sym h.replayed) (subst (λ (s : SearchState). StandsStill (replay old.problem old.journal) s other) (sym now) still);
+      had = λ other ne out.
+          let later = (core_out new worker other g).0 out in
+          let took : HasTake other (entries_of worker (old.journal ++ e ∷ [])) = subst (λ (j : List Entry). HasTake other (entries_of worker j)) grown later.0 in
+          elim (took_cases worker other old.journal e took) [
+            | inl t ↦ (core_out old worker other h).1 (t, λ r. later.1 (subst (λ (j : List Entry). HasReport other (entries_of worker j)) (sym grown) (Any_more worker old.journal (e ∷ []) r)))
+            | inr t ↦ absurd (ne (take other t))
+          ];
+    }
+
+-- after its report the node is out to the worker no more
+pub reported : (old new : CoreFields) (worker : ℕ) (found : EvaluatedFields) → HasHistory old → HasHistory new → IsReported old worker found new → HasBeside worker found.node old.state new.state × ¬ (IsOutTo new.state worker found.node)
+reported old new worker found h g told =
+    let grown : new.journal ≡ old.journal ++ entry_of old worker found ∷ [] = ap (λ (x : CoreFields). x.journal) told.noted in (
+      beside old new worker found.node (entry_of old worker found) h g (ap (λ (x : CoreFields). x.problem) told.noted) grown (λ other t. absurd (false≢true t)) (λ other r. sym (eqb-true found.node other r)),
+      λ out.
+          let later = (core_out new worker found.node g).0 out in
+          let open_still : ¬ (HasReport found.node (entries_of worker (old.journal ++ entry_of old worker found ∷ []))) = λ r. later.1 (subst (λ (j : List Entry). HasReport found.node (entries_of worker j)) (sym grown) r) in
+          report_apart old.state old.journal worker found.node found.bound found.pair found.value (has_room_for old found) worker found.node told.was_out told.was_out open_still refl,
+    )
+
+idle_or_out : (it was : SearchNode) (o : Option SearchNode) (worker : ℕ) → o ≡ Some it → it.standing ≡ Idle → o ≡ Some was → was.standing ≡ Out worker → ⊥
+idle_or_out it was o worker a b c d =
+    let same : it ≡ was = cc in
+    let clash : Idle ≡ Out worker = sym b ∙ (ap (λ (y : SearchNode). y.standing) same ∙ d) in
+    absurd cc
+
+-- a node that is handed out was idle
+pub handed_out : (old new : CoreFields) (worker : ℕ) (ticket : TicketFields) → HasHistory old → HasHistory new → MayTake old.problem old.state ticket.node → new ≡ with_entry old (Take worker ticket.node) old.order → IsOutTo new.state worker ticket.node
+    → IsTicketOf new ticket.node ticket → IsHanded worker ticket old.state new.state
+handed_out old new worker ticket h g may noted out is = record {
+  has = record { is_out = out; bound = is.bound; path = is.path };
+  fresh = λ was. idle_or_out may.ready.it was.0 (slice_get old.state.nodes ticket.node) worker may.ready.is_there may.ready.idle was.1 was.2;
+  beside = beside old new worker ticket.node (Take worker ticket.node) h g (ap (λ (x : CoreFields). x.problem) noted) (ap (λ (x : CoreFields). x.journal) noted) (λ other t. sym (eqb-true ticket.node other t)) (λ other r. absurd (false≢true r));
 }
 
 -- what a take leaves, whatever it replies

@@ -1,5 +1,7 @@
 pub mod EventLemmas
 pub mod HoldingLemmas
+pub mod BatchLemmas
+pub mod MarkLemmas
 pub mod EndLemmas
 pub mod PlaceLemmas
 pub mod RoundLemmas

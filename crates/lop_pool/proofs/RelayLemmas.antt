@@ -7,6 +7,7 @@ use Rattle.lop_model.specs.Matrix.{Matrix}
 use Rattle.lop_core.specs.declared.journal.Entry.{Entry}
 use Rattle.lop_core.specs.Tree.{out_count}
 use Rattle.lop_core.specs.Machine.{Problem}
+use Rattle.lop_core.specs.Journal.{replay}
 use Rattle.lop_core.specs.Core.{CoreFields, HasHistory}
 use Rattle.lop_turn.specs.declared.view.View.{View}
 use Rattle.lop_turn.specs.Lists.{entries_by, list_at}
@@ -19,7 +20,7 @@ use Rattle.lop_pool.specs.Judged.{Relation}
 use Rattle.lop_pool.specs.Holding.{HasNone, Holds, WhateverElse}
 use Rattle.lop_pool.specs.Workers.{WorkerFits, IsPassFor, IsAtWork, HasLeft, IsFirst, IsNumber, IsBack, AllAt}
 use Rattle.lop_pool.proofs.HoldingLemmas.{no_out}
-use Rattle.lop_pool.proofs.RoundLemmas.{known, knows_none}
+use Rattle.lop_pool.proofs.RoundLemmas.{known, knows_none, holds_none}
 
 pub some_and : {X : Type 0} (P Q : X → Type 0) (o : Option X) → ((x : X) → P x → Q x) → IsSomeAnd o P → IsSomeAnd o Q
 some_and P Q None f h = h
@@ -51,13 +52,13 @@ not_split k numbers all has = let n = All-contains (IsNumber k) numbers (k + 1) 
 module _ {J : Type 0} (objects : J → ℕ) (judged : Relation) (a : CoreFields) (C : Matrix) (turn : TurnName) where
   -- a worker without a result that gets a pass of its number is ready for the round
   pub handed : (v : View Event) (number : ℕ) (w : Worker J) → number ≤ 16 → a.problem.weights ≡ C → HasHistory a → out_count a.state.nodes ≡ 0 → IsFirst a v → v.seen ≡ events_of a.journal
-      → WorkerFits objects C.size w → w.has_result ≡ false → IsSomeAnd w.pass (λ p. (p.turn ≡ turn) × (p.view ≡ new_view event_worker v number)) → IsAtWork objects judged a.problem C turn number w
+      → WorkerFits objects C.size w → w.held ≡ 0 → IsSomeAnd w.pass (λ p. (p.turn ≡ turn) × (p.view ≡ new_view event_worker v number)) → IsAtWork objects judged a.problem C turn number w
   handed v number w small weights h none first seen fits idle pass = record {
     small = small;
     weights_are = weights;
     fits = fits;
     has_pass = some_and (λ (p : Known Event). (p.turn ≡ turn) × (p.view ≡ new_view event_worker v number))
-        (λ (p : Known Event). IsPassFor turn a.problem number p × WhateverElse a.problem number p.view.mine (Holds judged C number w.has_result w.found)) w.pass
+        (λ (p : Known Event). IsPassFor turn a.problem number p × WhateverElse a.problem number p.view.mine (Holds judged C number w.parcels.items w.held)) w.pass
         (λ p is. (
           record {
             turn_is = is.0;
@@ -65,8 +66,8 @@ module _ {J : Type 0} (objects : J → ℕ) (judged : Relation) (a : CoreFields)
             number_is = ap (λ (x : View Event). x.number) is.1;
             fixed_is = ap (λ (x : View Event). x.fixed) is.1 ∙ first.fixed_is;
           },
-          subst (λ (b : Bool). WhateverElse a.problem number p.view.mine (Holds judged C number b w.found)) (sym idle)
-              (knows_none a.problem a number p.view.mine h refl (ap (λ (x : View Event). x.mine) is.1 ∙ ap (λ (es : List Event). entries_by event_worker number es) seen) (no_out a.state none number)),
+          λ j lj e. holds_none judged C number w.parcels.items w.held (replay a.problem j) idle
+              (knows_none a.problem a number p.view.mine h refl (ap (λ (x : View Event). x.mine) is.1 ∙ ap (λ (es : List Event). entries_by event_worker number es) seen) (no_out a.state none number) j lj e),
         ))
         pass;
   }

@@ -1,8 +1,7 @@
 -- What a pass knows of a worker, through a turn.
-use Rattle.std.proofs.Common.{◌≡◌, ℕ, List, ◌++◌, sym, ◌∙◌, ap, subst, true, false}
+use Rattle.std.proofs.Common.{◌≡◌, ℕ, List, ◌++◌, arith, sym, ◌∙◌, ap, subst, true, false}
 use Rattle.std.specs.Prelude.{ℤ, ◌≤ℤ◌, All}
-use Rattle.lop_model.specs.Matrix.{IsWeights}
-use Rattle.lop_leaf.specs.Ticket.{TicketFields}
+use Rattle.lop_model.specs.Matrix.{Matrix, IsWeights}
 use Rattle.lop_core.specs.declared.journal.Entry.{Entry}
 use Rattle.lop_core.specs.Machine.{Problem, SearchState}
 use Rattle.lop_core.specs.Journal.{replay, IsLawfulJournal}
@@ -13,10 +12,13 @@ use Rattle.lop_turn.specs.declared.view.View.{View}
 use Rattle.lop_turn.specs.Lists.{entries_by}
 use Rattle.lop_turn.specs.Views.{Known, TurnName, after_take, after_give}
 use Rattle.lop_pool.specs.declared.event.Event.{Event}
+use Rattle.lop_pool.specs.declared.parcel.Parcel.{Parcel}
 use Rattle.lop_pool.specs.Events.{events_of, event_worker, events_by, IsGrown}
-use Rattle.lop_pool.specs.Holding.{HasNone, HasTicket, WhateverElse}
-use Rattle.lop_pool.specs.Workers.{IsPassFor, quiet}
-use Rattle.lop_pool.proofs.HoldingLemmas.{none_kept, ticket_kept}
+use Rattle.lop_pool.specs.Judged.{Relation}
+use Rattle.lop_pool.specs.Holding.{HasNone, HasTickets, Holds, WhateverElse}
+use Rattle.lop_pool.specs.Workers.{IsPassFor, quiet, unmarked}
+use Rattle.lop_pool.proofs.HoldingLemmas.{none_kept, tickets_kept}
+use Rattle.lop_pool.proofs.BatchLemmas.{no_tickets}
 
 replayed : (problem : Problem) (b : CoreFields) → HasHistory b → b.problem ≡ problem → b.state ≡ replay problem b.journal
 replayed problem b h same = h.replayed ∙ ap (λ (q : Problem). replay q b.journal) same
@@ -33,10 +35,16 @@ knows_none problem b number mine h same e none =
     subst (λ (m : List Event). WhateverElse problem number m (HasNone number)) (sym e)
     (none_kept problem b.journal number (lawful problem b h same) (subst (HasNone number) (replayed problem b h same) none))
 
-pub knows_ticket : (problem : Problem) (b : CoreFields) (number : ℕ) (mine : List Event) (t : TicketFields) → HasHistory b → b.problem ≡ problem → mine ≡ events_by number b.journal → HasTicket number t b.state → WhateverElse problem number mine (HasTicket number t)
-knows_ticket problem b number mine t h same e has =
-    subst (λ (m : List Event). WhateverElse problem number m (HasTicket number t)) (sym e)
-    (ticket_kept problem b.journal number t (lawful problem b h same) (subst (HasTicket number t) (replayed problem b h same) has))
+pub knows_tickets : (problem : Problem) (b : CoreFields) (number : ℕ) (mine : List Event) (parcels : List Parcel) (to : ℕ) → HasHistory b → b.problem ≡ problem → mine ≡ events_by number b.journal → HasTickets number parcels 0 to b.state
+    → WhateverElse problem number mine (HasTickets number parcels 0 to)
+knows_tickets problem b number mine parcels to h same e has =
+    subst (λ (m : List Event). WhateverElse problem number m (HasTickets number parcels 0 to)) (sym e)
+    (tickets_kept problem b.journal number parcels 0 to (lawful problem b h same) (subst (HasTickets number parcels 0 to) (replayed problem b h same) has))
+
+-- a worker to which no node is out holds no result
+pub holds_none : (judged : Relation) (C : Matrix) (number : ℕ) (parcels : List Parcel) (held : ℕ) (s : SearchState) → held ≡ 0 → HasNone number s → Holds judged C number parcels held s
+holds_none judged C number parcels held s e none =
+    subst (λ (n : ℕ). Holds judged C number parcels n s) (sym e) (record { tickets = no_tickets number parcels s none; results = λ k d lt. absurd (omega (arith, lt)) })
 
 -- the problem of the value that was taken
 pub same_problem : (problem q : Problem) (fixed : List ℤ) → IsWeights problem.weights → IsWeights q.weights → fixed_of q ≡ fixed → fixed ≡ fixed_of problem → q ≡ problem
@@ -81,6 +89,15 @@ module _ (p : Known Event) (v : View Event) (b : CoreFields) (took : quiet v ≡
 -- a refused try changes nothing but whom it found
 pub still_pass : (turn : TurnName) (problem : Problem) (number : ℕ) (p q : Known Event) → q.turn ≡ p.turn → quiet q.view ≡ quiet p.view → IsPassFor turn problem number p → IsPassFor turn problem number q
 still_pass turn problem number p q same view is = record {
+  turn_is = same ∙ is.turn_is;
+  free = ap (λ (x : View Event). x.holds) view ∙ is.free;
+  number_is = ap (λ (x : View Event). x.number) view ∙ is.number_is;
+  fixed_is = ap (λ (x : View Event). x.fixed) view ∙ is.fixed_is;
+}
+
+-- a mark that was raised or read changes nothing but the floor
+pub marked_pass : (turn : TurnName) (problem : Problem) (number : ℕ) (p q : Known Event) → q.turn ≡ p.turn → unmarked q.view ≡ unmarked p.view → IsPassFor turn problem number p → IsPassFor turn problem number q
+marked_pass turn problem number p q same view is = record {
   turn_is = same ∙ is.turn_is;
   free = ap (λ (x : View Event). x.holds) view ∙ is.free;
   number_is = ap (λ (x : View Event). x.number) view ∙ is.number_is;

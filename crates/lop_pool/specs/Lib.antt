@@ -3,3 +3,4 @@ pub mod Judged
 pub mod Holding
 pub mod Workers
 pub mod Ends
+pub mod Marks

@@ -1,5 +1,5 @@
 -- A worker of the pool, between rounds and in a round.
-use Rattle.std.specs.Prelude.{◌≡◌, ℕ, ◌<◌, ◌≤◌, false, [], List, length, slice_index_or, Some, IsSomeAnd}
+use Rattle.std.specs.Prelude.{◌≡◌, ℕ, pos, ◌<◌, ◌≤◌, false, [], List, length, vec_len, All, slice_index_or, Some, IsSomeAnd}
 use Rattle.lop_model.specs.Matrix.{Matrix}
 use Rattle.lop_core.specs.Core.{CoreFields}
 use Rattle.lop_core.specs.Machine.{Problem}
@@ -8,20 +8,31 @@ use Rattle.lop_turn.specs.declared.view.View.{View}
 use Rattle.lop_turn.specs.Lists.{list_at}
 use Rattle.lop_turn.specs.Views.{Known, TurnName}
 use Rattle.lop_pool.specs.declared.event.Event.{Event}
+use Rattle.lop_pool.specs.declared.parcel.Parcel.{Parcel}
 use Rattle.lop_pool.specs.declared.worker.Worker.{Worker}
 use Rattle.lop_pool.specs.Events.{events_of, events_by}
 use Rattle.lop_pool.specs.Judged.{Relation}
 use Rattle.lop_pool.specs.Holding.{Holds, WhateverElse}
 
--- its judge and its rooms are for n objects
+-- its rooms are for n objects
+pub record ParcelFits (n : ℕ) (p : Parcel) : Type 0 where
+  pub ticket : p.ticket.size ≡ n
+  pub found : length p.found.order ≡ n
+
+-- its judge and its eight parcels are for n objects, and it holds no more results than that
 pub record WorkerFits {J : Type 0} (objects : J → ℕ) (n : ℕ) (w : Worker J) : Type 0 where
   pub judge : objects w.judge ≡ n
-  pub ticket : w.ticket.size ≡ n
-  pub found : length w.found.order ≡ n
+  pub eight : vec_len w.parcels ≡ 8
+  pub parcels : All (ParcelFits n) w.parcels.items
+  pub within : w.held ≤ 8
 
 -- what a view says beside whom its tries found
 abbrev pub quiet : {E : Type 0} → View E → View E
 quiet v = record v { away = [] }
+
+-- what a view says beside its floor
+abbrev pub unmarked : {E : Type 0} → View E → View E
+unmarked v = record v { floor = pos 0 }
 
 -- a pass of this turn, without the turn and under this number, for the problem
 pub record IsPassFor (turn : TurnName) (problem : Problem) (number : ℕ) (p : Known Event) : Type 0 where
@@ -35,12 +46,12 @@ pub record IsAtWork {J : Type 0} (objects : J → ℕ) (judged : Relation) (prob
   pub small : number ≤ 16
   pub weights_are : problem.weights ≡ C
   pub fits : WorkerFits objects C.size w
-  pub has_pass : IsSomeAnd w.pass (λ p. IsPassFor turn problem number p × WhateverElse problem number p.view.mine (Holds judged C number w.has_result w.found))
+  pub has_pass : IsSomeAnd w.pass (λ p. IsPassFor turn problem number p × WhateverElse problem number p.view.mine (Holds judged C number w.parcels.items w.held))
 
 -- a worker that left a round with these events: they say what it holds, whatever the others did
 pub record HasLeft {J : Type 0} (objects : J → ℕ) (judged : Relation) (problem : Problem) (C : Matrix) (number : ℕ) (mine : List Event) (w : Worker J) : Type 0 where
   pub fits : WorkerFits objects C.size w
-  pub knows : WhateverElse problem number mine (Holds judged C number w.has_result w.found)
+  pub knows : WhateverElse problem number mine (Holds judged C number w.parcels.items w.held)
 
 -- the first pass of a round that was opened with this core
 pub record IsFirst (core : CoreFields) (v : View Event) : Type 0 where

@@ -54,7 +54,7 @@ fn settle<J: Judge>(
     requires weights { core.old.problem.weights ≡ weights.now }
     requires left { HasLeft J.objects J.judged core.old.problem weights.now number (events_by number core.old.journal) worker.old }
     ensures fits { WorkerFits J.objects weights.now.size worker.new }
-    ensures idle { worker.new.has_result ≡ false }
+    ensures idle { worker.new.held ≡ 0 }
     ensures same_problem { core.new.problem ≡ core.old.problem }
     ensures after { HasHistory core.new }
     ensures rises { core.old.state.evaluated ≤ core.new.state.evaluated }
@@ -62,8 +62,8 @@ fn settle<J: Judge>(
     ensures others { (other : ℕ) → other ≢ number → events_by other core.new.journal ≡ events_by other core.old.journal }
 {
     let _before = core.core().evaluated();
-    report_held(core, number, worker.has_result, &worker.found);
-    worker.has_result = false;
+    report_held(core, number, worker.held, &worker.parcels);
+    worker.held = 0;
     let _after = core.core().evaluated();
 }
 
@@ -76,7 +76,7 @@ pub fn settle_all<J: Judge>(core: &mut JudgedCore<J>, weights: &Weights, workers
     requires none { (worker : ℕ) → (worker ≡ 0) ⊎ (length workers.old < worker) → HasNone worker core.old.state }
     ensures len { length workers.new ≡ length workers.old }
     ensures fits { All (WorkerFits J.objects weights.now.size) workers.new }
-    ensures idle { All (λ w. w.has_result ≡ false) workers.new }
+    ensures idle { All (λ w. w.held ≡ 0) workers.new }
     ensures same_problem { core.new.problem ≡ core.old.problem }
     ensures none_out { out_count core.new.state.nodes ≡ 0 }
     ensures rises { core.old.state.evaluated ≤ core.new.state.evaluated }

@@ -8,6 +8,7 @@ mod end;
 mod event;
 mod gate;
 mod judged_core;
+mod parcel;
 mod pool;
 mod relay;
 mod round;

@@ -30,7 +30,7 @@ fn hand_pass<J: Judge>(
     ensures turn { first.new.turn ≡ first.old.turn }
     ensures first { first.new.view ≡ after_split first.old.view number }
     ensures fits { (n : ℕ) → WorkerFits J.objects n worker.old → WorkerFits J.objects n worker.new }
-    ensures has { worker.new.has_result ≡ worker.old.has_result }
+    ensures held { worker.new.held ≡ worker.old.held }
     ensures pass { IsSomeAnd worker.new.pass (λ p. (p.turn ≡ turn.now) × (p.view ≡ new_view event_worker first.old.view number)) }
 {
     worker.pass = Some(turn.split(first, number));
@@ -53,7 +53,7 @@ pub fn hand_passes<J: Judge>(
     requires none_out { out_count about.now.value.state.nodes ≡ 0 }
     requires at_most { length workers.old ≤ 16 }
     requires fits { All (WorkerFits J.objects weights.now.size) workers.old }
-    requires idle { All (λ w. w.has_result ≡ false) workers.old }
+    requires idle { All (λ w. w.held ≡ 0) workers.old }
     ensures len { length workers.new ≡ length workers.old }
     ensures turn { first.new.turn ≡ first.old.turn }
     ensures first { IsFirst about.now.value first.new.view }

@@ -41,7 +41,7 @@ fn share<R: Threads + Sync, J: Judge, G: Gate>(
     requires some { 1 ≤ length workers.old }
     requires at_most { length workers.old ≤ 16 }
     requires fits { All (WorkerFits J.objects weights.now.size) workers.old }
-    requires idle { All (λ w. w.has_result ≡ false) workers.old }
+    requires idle { All (λ w. w.held ≡ 0) workers.old }
     ensures len { length workers.new ≡ length workers.old }
     ensures same_problem { result.problem ≡ about.now.value.problem }
     ensures history { HasHistory result }
@@ -68,12 +68,12 @@ fn round<R: Threads + Sync, J: Judge, G: Gate>(
     requires some { 1 ≤ length workers.old }
     requires at_most { length workers.old ≤ 16 }
     requires fits { All (WorkerFits J.objects weights.now.size) workers.old }
-    requires idle { All (λ w. w.has_result ≡ false) workers.old }
+    requires idle { All (λ w. w.held ≡ 0) workers.old }
     requires weights { core.problem.weights ≡ weights.now }
     requires none_out { out_count core.state.nodes ≡ 0 }
     ensures len { length workers.new ≡ length workers.old }
     ensures fits { All (WorkerFits J.objects weights.now.size) workers.new }
-    ensures idle { All (λ w. w.has_result ≡ false) workers.new }
+    ensures idle { All (λ w. w.held ≡ 0) workers.new }
     ensures same_problem { result.problem ≡ core.problem }
     ensures none_out { out_count result.state.nodes ≡ 0 }
     ensures rises { core.state.evaluated ≤ result.state.evaluated }
@@ -102,12 +102,12 @@ pub fn try_round<R: Threads + Sync, J: Judge, G: Gate>(
     requires some { 1 ≤ length workers.old }
     requires at_most { length workers.old ≤ 16 }
     requires fits { All (WorkerFits J.objects weights.now.size) workers.old }
-    requires idle { All (λ w. w.has_result ≡ false) workers.old }
+    requires idle { All (λ w. w.held ≡ 0) workers.old }
     requires weights { core.problem.weights ≡ weights.now }
     requires none_out { out_count core.state.nodes ≡ 0 }
     ensures len { length workers.new ≡ length workers.old }
     ensures fits { All (WorkerFits J.objects weights.now.size) workers.new }
-    ensures idle { All (λ w. w.has_result ≡ false) workers.new }
+    ensures idle { All (λ w. w.held ≡ 0) workers.new }
     ensures same_problem { result.0.problem ≡ core.problem }
     ensures none_out { out_count result.0.state.nodes ≡ 0 }
     ensures rises { core.state.evaluated ≤ result.0.state.evaluated }

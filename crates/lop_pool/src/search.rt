@@ -18,9 +18,9 @@ use std::thread::Threads;
 /// The worker holds no result and has judged no ticket.
 fn clear<J: Judge>(worker: &mut Worker<J>)
     ensures fits { (n : ℕ) → WorkerFits J.objects n worker.old → WorkerFits J.objects n worker.new }
-    ensures idle { worker.new.has_result ≡ false }
+    ensures idle { worker.new.held ≡ 0 }
 {
-    worker.has_result = false;
+    worker.held = 0;
     worker.judged = 0;
 }
 
@@ -28,7 +28,7 @@ fn clear<J: Judge>(worker: &mut Worker<J>)
 fn start_anew<J: Judge>(workers: &mut [Worker<J>])
     ensures len { length workers.new ≡ length workers.old }
     ensures fits { (n : ℕ) → All (WorkerFits J.objects n) workers.old → All (WorkerFits J.objects n) workers.new }
-    ensures idle { All (λ w. w.has_result ≡ false) workers.new }
+    ensures idle { All (λ w. w.held ≡ 0) workers.new }
 {
     for k in 0..workers.len() {
         clear(&mut workers[k]);
@@ -48,12 +48,12 @@ fn step<R: Threads + Sync, J: Judge, G: Gate>(
     requires some { 1 ≤ length workers.old }
     requires at_most { length workers.old ≤ 16 }
     requires fits { All (WorkerFits J.objects weights.now.size) workers.old }
-    requires idle { All (λ w. w.has_result ≡ false) workers.old }
+    requires idle { All (λ w. w.held ≡ 0) workers.old }
     requires weights { core.problem.weights ≡ weights.now }
     requires none_out { out_count core.state.nodes ≡ 0 }
     ensures len { length workers.new ≡ length workers.old }
     ensures fits { All (WorkerFits J.objects weights.now.size) workers.new }
-    ensures idle { All (λ w. w.has_result ≡ false) workers.new }
+    ensures idle { All (λ w. w.held ≡ 0) workers.new }
     ensures same_problem { result.0.problem ≡ core.problem }
     ensures none_out { out_count result.0.state.nodes ≡ 0 }
     ensures more { IfNone result.1 (core.state.evaluated < result.0.state.evaluated) }
@@ -82,7 +82,7 @@ fn run<R: Threads + Sync, J: Judge, G: Gate>(
     requires some { 1 ≤ length workers.old }
     requires at_most { length workers.old ≤ 16 }
     requires fits { All (WorkerFits J.objects weights.now.size) workers.old }
-    requires idle { All (λ w. w.has_result ≡ false) workers.old }
+    requires idle { All (λ w. w.held ≡ 0) workers.old }
     requires weights { core.problem.weights ≡ weights.now }
     requires none_out { out_count core.state.nodes ≡ 0 }
     ensures len { length workers.new ≡ length workers.old }

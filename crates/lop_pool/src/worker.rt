@@ -2,10 +2,13 @@
 ghost use Rattle.std.specs.Prelude.{◌≡◌, vec_len, IfOk, All};
 
 use crate::judged_core::JudgedCore;
-use lop_leaf::{Evaluated, Ticket};
+use crate::parcel::Parcel;
 use lop_node::Judge;
 use lop_turn::turn::Pass;
 use std::alloc::{AllocError, Global};
+
+/// How many nodes a worker takes at one turn, at most.
+pub const BATCH: usize = 8;
 
 /// A worker of the pool.
 #[derive(Drop)]
@@ -13,16 +16,28 @@ pub struct Worker<J: Judge> {
     pub judge: J,
     /// Its pass, while a round runs.
     pub pass: Option<Pass<JudgedCore<J>>>,
-    pub ticket: Ticket,
-    pub found: Evaluated,
-    /// Whether what it found is still to be reported.
-    pub has_result: bool,
+    /// Eight of them.
+    pub parcels: Vec<Parcel>,
+    /// How many of the parcels, from the first on, have a result that is still to be reported.
+    pub held: usize,
     /// How many tickets it has judged in this search.
     pub judged: u32,
 }
 
 impl<J: Judge> Worker<J> {
-    ghost use Rattle.lop_pool.specs.Workers.{WorkerFits};
+    ghost use Rattle.lop_pool.specs.Workers.{ParcelFits, WorkerFits};
+
+    /// Eight parcels for n objects.
+    fn parcels(alloc: Global, n: u16) -> Result<Vec<Parcel>, AllocError>
+        ensures len { IfOk result (λ ps. vec_len ps ≡ 8) }
+        ensures fits { IfOk result (λ ps. All (ParcelFits n) ps.items) }
+    {
+        let mut parcels = Vec::new(alloc);
+        for _ in 0..BATCH {
+            parcels.push(Parcel::new(alloc, n)?)?;
+        }
+        Ok(parcels)
+    }
 
     /// A worker with this judge and rooms for n objects.
     fn new(alloc: Global, judge: J, n: u16) -> Result<Self, AllocError>
@@ -32,9 +47,8 @@ impl<J: Judge> Worker<J> {
         Ok(Worker {
             judge,
             pass: None,
-            ticket: Ticket::new(alloc, n)?,
-            found: Evaluated::new(alloc, n)?,
-            has_result: false,
+            parcels: Self::parcels(alloc, n)?,
+            held: 0,
             judged: 0,
         })
     }

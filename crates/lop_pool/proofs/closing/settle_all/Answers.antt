@@ -39,7 +39,7 @@ loop-k-preserved g c =
       history = c.settle.ensures.after;
       rises = omega (arith, c.settle.ensures.rises, c.loop-k.invariant.rises);
       fits = AllWithin-more_set c.loop-k.workers c.loop-k.k c.settle.new.worker lt (WorkerFits g.J.Judge.objects c.args.weights.now.size) c.loop-k.invariant.fits c.settle.ensures.fits;
-      idle = AllWithin-more_set c.loop-k.workers c.loop-k.k c.settle.new.worker lt (λ w. w.has_result ≡ false) c.loop-k.invariant.idle c.settle.ensures.idle;
+      idle = AllWithin-more_set c.loop-k.workers c.loop-k.k c.settle.new.worker lt (λ w. w.held ≡ 0) c.loop-k.invariant.idle c.settle.ensures.idle;
       rest = from_set (λ k w. HasLeft g.J.Judge.objects g.J.Judge.judged c.settle.new.core.problem c.args.weights.now (k + 1) (events_by (k + 1) c.settle.new.core.journal) w) c.loop-k.workers c.loop-k.k c.settle.new.worker
           (λ j d le ll. left_in g.J.Judge.objects g.J.Judge.judged c.loop-k.core.problem c.args.weights.now c.settle.new.core.problem (j + 1) (events_by (j + 1) c.loop-k.core.journal) (events_by (j + 1) c.settle.new.core.journal)
           (get_or c.loop-k.workers j d) c.settle.ensures.same_problem (c.settle.ensures.others (j + 1) (omega (arith, le))) (c.loop-k.invariant.rest j d (omega (arith, le)) ll));

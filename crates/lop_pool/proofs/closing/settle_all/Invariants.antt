@@ -13,7 +13,7 @@ invariant-loop-k g l = record {
   history : HasHistory l.core;
   rises : l.fn.core.state.evaluated ≤ l.core.state.evaluated;
   fits : AllWithin (WorkerFits g.J.Judge.objects l.fn.weights.size) l.workers 0 l.k;
-  idle : AllWithin (λ w. w.has_result ≡ false) l.workers 0 l.k;
+  idle : AllWithin (λ w. w.held ≡ 0) l.workers 0 l.k;
   rest : FromAt (λ k w. HasLeft g.J.Judge.objects g.J.Judge.judged l.core.problem l.fn.weights (k + 1) (events_by (k + 1) l.core.journal) w) l.k l.workers;
   none : (worker : ℕ) → (worker ≤ l.k) ⊎ (length l.fn.workers < worker) → HasNone worker l.core.state;
 }

@@ -11,7 +11,7 @@ pub loop-k-preserved : goal.loop-k-preserved
 loop-k-preserved g c =
     let lt : c.loop-k.k < length c.loop-k.workers = omega (arith, c.loop-k-test.true, c.loop-k.invariant.len, c.loop-k.auto.workers) in
     let fits = c.hand_pass.ensures.fits c.args.weights.now.size (c.loop-k.invariant.fits c.loop-k.k c.index-workers-k.result lt) in
-    let idle : c.hand_pass.new.worker.has_result ≡ false = c.hand_pass.ensures.has ∙ c.loop-k.invariant.idle c.loop-k.k c.index-workers-k.result lt in
+    let idle : c.hand_pass.new.worker.held ≡ 0 = c.hand_pass.ensures.held ∙ c.loop-k.invariant.idle c.loop-k.k c.index-workers-k.result lt in
     let small : c.loop-k.k + 1 ≤ 16 = omega (arith, lt, c.loop-k.invariant.len, c.requires.at_most) in
     record {
       len = length-set c.loop-k.workers c.loop-k.k c.hand_pass.new.worker ∙ c.loop-k.invariant.len;
@@ -20,7 +20,7 @@ loop-k-preserved g c =
       seen = ap (λ (v : View Event). v.seen) c.hand_pass.ensures.first ∙ c.loop-k.invariant.seen;
       split = split_more c.loop-k.first.view c.hand_pass.new.first.view c.loop-k.k c.hand_pass.ensures.first c.loop-k.invariant.split;
       fits = All-set (WorkerFits g.J.Judge.objects c.args.weights.now.size) c.loop-k.workers c.loop-k.k c.hand_pass.new.worker fits c.loop-k.invariant.fits;
-      idle = All-set (λ w. w.has_result ≡ false) c.loop-k.workers c.loop-k.k c.hand_pass.new.worker idle c.loop-k.invariant.idle;
+      idle = All-set (λ w. w.held ≡ 0) c.loop-k.workers c.loop-k.k c.hand_pass.new.worker idle c.loop-k.invariant.idle;
       done = below_set (λ k w. IsAtWork g.J.Judge.objects g.J.Judge.judged c.args.about.now.value.problem c.args.weights.now c.args.turn.now (k + 1) w) c.loop-k.workers c.loop-k.k c.hand_pass.new.worker lt
           (handed g.J.Judge.objects g.J.Judge.judged c.args.about.now.value c.args.weights.now c.args.turn.now c.loop-k.first.view (c.loop-k.k + 1) c.hand_pass.new.worker small c.requires.weights c.requires.history c.requires.none_out
           c.loop-k.invariant.first c.loop-k.invariant.seen fits idle c.hand_pass.ensures.pass)

@@ -12,6 +12,6 @@ invariant-loop-k g l = record {
   seen : l.first.view.seen ≡ events_of l.fn.about.value.journal;
   split : All (IsNumber l.k) l.first.view.split_off;
   fits : All (WorkerFits g.J.Judge.objects l.fn.weights.size) l.workers;
-  idle : All (λ w. w.has_result ≡ false) l.workers;
+  idle : All (λ w. w.held ≡ 0) l.workers;
   done : BelowAt (λ k w. IsAtWork g.J.Judge.objects g.J.Judge.judged l.fn.about.value.problem l.fn.weights l.fn.turn (k + 1) w) l.k l.workers;
 }

@@ -2,8 +2,8 @@ use Rattle.std.proofs.Common.{◌≡◌}
 use Rattle.lop_pool.specs.Workers.{quiet}
 use Rattle.lop_pool.proofs.round.take_within.Given as goal
 
-abbrev pub invariant-loop : goal.invariant-loop
-invariant-loop g l = record {
+abbrev pub invariant-loop-tries : goal.invariant-loop-tries
+invariant-loop-tries g l = record {
   turn : l.pass.turn ≡ l.fn.pass.turn;
   quiet : quiet l.pass.view ≡ quiet l.fn.pass.view;
 }

@@ -8,7 +8,7 @@ abbrev pub invariant-loop-end : goal.invariant-loop-end
 invariant-loop-end g l = record {
   len : length l.workers ≡ length l.fn.workers;
   fits : All (WorkerFits g.J.Judge.objects l.fn.weights.size) l.workers;
-  idle : All (λ w. w.has_result ≡ false) l.workers;
+  idle : All (λ w. w.held ≡ 0) l.workers;
   same_problem : l.core.problem ≡ l.fn.core.problem;
   none_out : out_count l.core.state.nodes ≡ 0;
 }

@@ -12,7 +12,7 @@ loop-k-preserved g c =
           let whole = c.loop-k.invariant.fits n all in
           All-set (WorkerFits g.J.Judge.objects n) c.loop-k.workers c.loop-k.k c.clear.new.worker
           (c.clear.ensures.fits n (whole c.loop-k.k c.index-workers-k.result lt)) whole;
-      idle = AllWithin-more_set c.loop-k.workers c.loop-k.k c.clear.new.worker lt (λ w. w.has_result ≡ false) c.loop-k.invariant.idle c.clear.ensures.idle;
+      idle = AllWithin-more_set c.loop-k.workers c.loop-k.k c.clear.new.worker lt (λ w. w.held ≡ 0) c.loop-k.invariant.idle c.clear.ensures.idle;
     }
 
 pub returns-clause-idle : goal.returns-clause-idle

@@ -8,5 +8,5 @@ abbrev pub invariant-loop-k : goal.invariant-loop-k
 invariant-loop-k g l = record {
   len : length l.workers ≡ length l.fn.workers;
   fits : (n : ℕ) → All (WorkerFits g.J.Judge.objects n) l.fn.workers → All (WorkerFits g.J.Judge.objects n) l.workers;
-  idle : AllWithin (λ w. w.has_result ≡ false) l.workers 0 l.k;
+  idle : AllWithin (λ w. w.held ≡ 0) l.workers 0 l.k;
 }

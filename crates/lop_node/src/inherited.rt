@@ -7,42 +7,7 @@ use lop_ascent::{AscentRoom, RowReply};
 use lop_leaf::LeafRecord;
 
 /// The most rows that a record leaves.
-const MOST_INHERITED: usize = 3_584;
-
-/// The most bounds that are tried: each is above 9/8 of the one before.
-const MOST_BOUNDS: u32 = 400;
-
-/// The multiplier of a term, or 0 where there is none.
-fn multiplier_at(start: &LeafRecord, index: usize) -> u64 {
-    if index < start.len() {
-        start.term(index).multiplier
-    } else {
-        0
-    }
-}
-
-/// How many terms have at least this multiplier. O(terms).
-fn count_from(start: &LeafRecord, least: u64) -> usize {
-    let mut count: usize = 0;
-    for index in 0..start.len() {
-        if multiplier_at(start, index) >= least {
-            count = count.wrapping_add(1);
-        }
-    }
-    count
-}
-
-/// A multiplier that few enough terms reach.
-fn least_kept(start: &LeafRecord) -> u64 {
-    let mut least: u64 = 0;
-    for _bound in 0..MOST_BOUNDS {
-        if count_from(start, least) <= MOST_INHERITED {
-            return least;
-        }
-        least = least.saturating_add(least / 8).saturating_add(1);
-    }
-    least
-}
+pub const MOST_INHERITED: usize = 3_584;
 
 /// Adds a row for a term.
 fn add_term(ascent: &mut AscentRoom, start: &LeafRecord, index: usize) -> RowReply
@@ -55,15 +20,15 @@ fn add_term(ascent: &mut AscentRoom, start: &LeafRecord, index: usize) -> RowRep
     ascent.add_row(&term.cut, term.multiplier, scale)
 }
 
-/// Adds a row for each term, but for those of the least multipliers where there are too many.
+/// Adds a row for each term, and drops those of the least multipliers where there are too many.
 pub fn add_rows(ascent: &mut AscentRoom, start: &LeafRecord)
     requires { FitTerms ascent.old.size start.now.terms }
     ensures { ascent.new.size ≡ ascent.old.size }
 {
-    let least = least_kept(start);
     for index in 0..start.len() {
-        if multiplier_at(start, index) >= least {
-            let _reply = add_term(ascent, start, index);
-        }
+        let _reply = add_term(ascent, start, index);
+    }
+    if ascent.len() > MOST_INHERITED {
+        let _least = ascent.drop_least_rows(MOST_INHERITED);
     }
 }

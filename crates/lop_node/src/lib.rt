@@ -2,6 +2,7 @@
 #![tactic(auto)]
 
 mod branching;
+mod bundle;
 mod by_point;
 mod choice;
 mod cut_judge;

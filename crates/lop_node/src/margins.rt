@@ -1,14 +1,15 @@
-// What may be taken from each arc: its margin, by the places that its objects have in an order. An arc that goes back in
-// the order is to be covered by two that go forward, by way of a third object. Reads and writes are tested, so that no
-// more is proved of them than that they are safe.
+// What may be taken from each arc: its margin less what the terms of a record charge, by the places that its objects have
+// in an order. An arc that goes back in the order is to be covered by two that go forward, by way of a third object. Reads
+// and writes are tested, so that no more is proved of them than that they are safe.
 ghost use Rattle.std.specs.Prelude.{◌≡◌, ℕ, ◌<◌, ◌≤◌, length, IfOk};
 
 use lop_fix::{Decision, Fixings};
-use lop_model::{Order, Weights};
+use lop_leaf::LeafRecord;
+use lop_model::{Order, Pair, Weights};
 use std::alloc::{AllocError, Global};
 
-/// The greatest margin, in units of a record's scale.
-const MOST: i64 = 4_611_686_018_427_387_904;
+/// The margin of an arc that is fixed, in units of a record's scale: others are below it.
+pub const MOST: i64 = 4_611_686_018_427_387_904;
 
 /// An arc by the places of its objects.
 #[derive(Clone, Copy)]
@@ -26,11 +27,12 @@ pub struct Thirds {
     pub second_margin: i64,
 }
 
-/// Margins in units of a record's scale, row by row and column by column, and for each arc a number that the least
-/// margin of its best dicycle doesn't exceed.
+/// Margins in units of a record's scale, row by row and column by column, for each arc a number that the least margin of
+/// its best dicycle doesn't exceed, and the places of the objects.
 #[derive(Drop)]
 pub struct Margins {
     size: usize,
+    places: Vec<usize>,
     rows: Vec<i64>,
     columns: Vec<i64>,
     reach: Vec<i64>,
@@ -60,7 +62,7 @@ fn part(cells: &[i64], start: usize, end: usize) -> &[i64] {
     }
 }
 
-/// The margin of a before b, or 0 where it is less or the pair is fixed.
+/// The margin of a before b: the greatest where it is fixed, the least where its reverse is, and between them elsewhere.
 fn margin_of(weights: &Weights, fixings: &Fixings, a: u16, b: u16, scale: u32) -> i64
     requires same_n { fixings.now.size ≡ weights.now.size }
 {
@@ -68,12 +70,24 @@ fn margin_of(weights: &Weights, fixings: &Fixings, a: u16, b: u16, scale: u32) -
         return 0;
     }
     match fixings.decided(a, b) {
-        Decision::Before | Decision::After => 0,
+        Decision::Before => MOST,
+        Decision::After => -MOST,
         Decision::Undecided => {
-            let margin = weights.margin(a, b).max(0);
-            margin.saturating_mul(i64::from(scale)).min(MOST)
+            let margin = weights.margin(a, b);
+            between(margin.saturating_mul(i64::from(scale)))
         }
     }
+}
+
+/// A margin of an arc that isn't fixed.
+fn between(margin: i64) -> i64 {
+    margin.max(1 - MOST).min(MOST - 1)
+}
+
+/// A multiplier at another scale.
+fn scaled(multiplier: u64, from: u32, to: u32) -> i64 {
+    let product = u128::from(multiplier).wrapping_mul(u128::from(to));
+    (product / u128::from(from.max(1))).min(4_611_686_018_427_387_904) as i64
 }
 
 /// The two best of the places from `start` on, by the lesser of both values. O(places).
@@ -112,11 +126,12 @@ fn with_third(best: Thirds, place: usize, margin: i64) -> Thirds {
 }
 
 impl Margins {
-    /// Takes 3 n² numbers of 8 bytes.
+    /// Takes 3 n² + n numbers of 8 bytes.
     pub fn new(alloc: Global, n: u16) -> Result<Self, AllocError> {
         let size = n as usize;
         Ok(Margins {
             size,
+            places: vec![in alloc; 0; size]?,
             rows: vec![in alloc; 0; size * size]?,
             columns: vec![in alloc; 0; size * size]?,
             reach: vec![in alloc; 0; size * size]?,
@@ -129,14 +144,15 @@ impl Margins {
     }
 
     /// The margin of an arc. O(1).
-    pub fn at(&self, arc: Span) -> i64 {
+    fn at(&self, arc: Span) -> i64 {
         read(&self.rows, cell(self.size, arc.from, arc.to))
     }
 
-    /// Whether the best dicycle of an arc may reach a threshold. O(1).
+    /// Whether an arc that isn't fixed may have a dicycle that reaches a threshold. O(1).
     pub fn may_reach(&self, arc: Span, threshold: i64) -> bool {
         let at = cell(self.size, arc.from, arc.to);
-        read(&self.rows, at).min(read(&self.reach, at)) >= threshold
+        let margin = read(&self.rows, at);
+        margin < MOST && margin.min(read(&self.reach, at)) >= threshold
     }
 
     /// Notes what the best dicycle of an arc reaches: margins only fall.
@@ -152,14 +168,17 @@ impl Margins {
     }
 
     /// Gives an arc another margin. O(1).
-    pub fn set(&mut self, arc: Span, to: i64) {
+    fn set(&mut self, arc: Span, to: i64) {
         write(&mut self.rows, cell(self.size, arc.from, arc.to), to);
         write(&mut self.columns, cell(self.size, arc.to, arc.from), to);
     }
 
-    /// Takes from an arc's margin. O(1).
+    /// Takes from an arc's margin, unless it is fixed. O(1).
     pub fn lessen(&mut self, arc: Span, by: i64) {
-        self.set(arc, self.at(arc).saturating_sub(by));
+        let margin = self.at(arc);
+        if margin > -MOST && margin < MOST {
+            self.set(arc, between(margin.saturating_sub(by)));
+        }
     }
 
     /// The margins of all arcs by the places of the order. O(n²).
@@ -168,14 +187,68 @@ impl Margins {
         requires order { length order.now ≡ weights.now.size }
     {
         for from in 0..order.n() {
-            for to in 0..order.n() {
-                let margin = margin_of(weights, fixings, order.at(from), order.at(to), scale);
-                let arc = Span {
-                    from: from as usize,
-                    to: to as usize,
-                };
-                self.set(arc, margin);
-            }
+            self.fill_row(weights, fixings, order, from, scale);
+        }
+    }
+
+    /// The place of the object at a place of the order, and the margins of the arcs from it. O(n).
+    fn fill_row(
+        &mut self,
+        weights: &Weights,
+        fixings: &Fixings,
+        order: &Order,
+        from: u16,
+        scale: u32,
+    )
+        requires fixings { fixings.now.size ≡ weights.now.size }
+        requires order { length order.now ≡ weights.now.size }
+        requires from { from < length order.now }
+    {
+        let object = order.at(from);
+        if (object as usize) < self.places.len() {
+            self.places[object as usize] = from as usize;
+        }
+        for to in 0..order.n() {
+            let margin = margin_of(weights, fixings, object, order.at(to), scale);
+            let arc = Span {
+                from: from as usize,
+                to: to as usize,
+            };
+            self.set(arc, margin);
+        }
+    }
+
+    /// Charges the arcs of a record's terms. O(arcs).
+    pub fn charge(&mut self, start: &LeafRecord, scale: u32) {
+        for index in 0..start.len() {
+            let term = start.term(index);
+            let by = scaled(term.multiplier, start.scale(), scale);
+            self.charge_arcs(term.cut.arcs().as_slice(), by);
+        }
+    }
+
+    fn charge_arcs(&mut self, arcs: &[Pair], by: i64) {
+        for arc in arcs {
+            let forth = Span {
+                from: self.place_of(arc.before),
+                to: self.place_of(arc.after),
+            };
+            let back = Span {
+                from: forth.to,
+                to: forth.from,
+            };
+            self.lessen(forth, by);
+            self.lessen(back, by.saturating_neg());
+        }
+    }
+
+    /// The place of an object, or 0.
+    fn place_of(&self, object: u16) -> usize {
+        let at = object as usize;
+        if at < self.places.len() {
+            self.places[at]
+        } else {
+            0
         }
     }
 
@@ -198,12 +271,18 @@ impl Margins {
         )
     }
 
+    /// The positive margin of an arc that isn't fixed, else 0. O(1).
+    pub fn free(&self, arc: Span) -> i64 {
+        let margin = self.at(arc).max(0);
+        if margin < MOST { margin } else { 0 }
+    }
+
     /// The greatest margin of an arc that goes back. O(n²).
     pub fn greatest_back(&self) -> i64 {
         let mut greatest = 0;
         for from in 0..self.size {
             for to in 0..from {
-                greatest = self.at(Span { from, to }).max(greatest);
+                greatest = self.free(Span { from, to }).max(greatest);
             }
         }
         greatest
@@ -214,7 +293,7 @@ impl Margins {
         let mut sum: i64 = 0;
         for from in 0..self.size {
             for to in 0..from {
-                sum = sum.saturating_add(self.at(Span { from, to }));
+                sum = sum.saturating_add(self.free(Span { from, to }));
             }
         }
         sum

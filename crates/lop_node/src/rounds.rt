@@ -5,7 +5,7 @@ ghost use Rattle.lop_leaf.specs.Record.{FitTerms};
 
 use crate::by_point::order_by_point;
 use crate::choice::{Choice, Taken};
-use crate::inherited::add_rows;
+use crate::inherited::{MOST_INHERITED, add_rows};
 use crate::margins::Margins;
 use crate::pool::Pool;
 use crate::search::{find_dicycles, find_fences, find_ladders};
@@ -257,7 +257,7 @@ impl Rounds {
         self.keep_ladders();
     }
 
-    /// The rows of the record, with its multipliers, and the order to start with.
+    /// The rows of the record, with its multipliers, others beside them, and the order to start with.
     fn begin(&mut self, weights: &Weights, fixings: &Fixings, start: &LeafRecord, order: &Order)
         requires weights { self.old.size ≡ weights.now.size }
         requires fixings { fixings.now.size ≡ weights.now.size }
@@ -267,26 +267,36 @@ impl Rounds {
     {
         self.forget();
         self.start_order(weights, order);
-        self.ascent.load(weights, fixings);
         if start.len() == 0 {
-            self.start_anew(weights, fixings);
-        } else {
-            add_rows(&mut self.ascent, start);
+            self.try_start_order(weights);
+        }
+        self.ascent.load(weights, fixings);
+        add_rows(&mut self.ascent, start);
+        if self.ascent.len() < MOST_INHERITED {
+            self.start_rows(weights, fixings, start);
         }
     }
 
-    /// The rows of a node that inherits none.
-    fn start_anew(&mut self, weights: &Weights, fixings: &Fixings)
-        requires weights { self.old.size ≡ weights.now.size }
-        requires fixings { fixings.now.size ≡ weights.now.size }
+    /// Climbs from the start order.
+    fn try_start_order(&mut self, weights: &Weights)
+        requires { self.old.size ≡ weights.now.size }
         ensures { self.new.size ≡ self.old.size }
     {
         start_order(weights, &mut self.climb);
         let climbed = climb(weights, &mut self.climb).value;
         self.keep_best(weights, climbed);
+    }
+
+    /// The rows beside those of the record.
+    fn start_rows(&mut self, weights: &Weights, fixings: &Fixings, start: &LeafRecord)
+        requires weights { self.old.size ≡ weights.now.size }
+        requires fixings { fixings.now.size ≡ weights.now.size }
+        ensures { self.new.size ≡ self.old.size }
+    {
         start_rows(
             weights,
             fixings,
+            start,
             &self.best,
             &mut self.margins,
             &mut self.ascent,
@@ -300,15 +310,15 @@ impl Rounds {
         self.rounded.clear();
     }
 
-    /// Leaves the order, climbed.
+    /// Climbs from the order. The best one of earlier nodes stays where it is better.
     fn start_order(&mut self, weights: &Weights, order: &Order)
         requires weights { self.old.size ≡ weights.now.size }
         requires order { length order.now ≡ self.old.size }
         ensures { self.new.size ≡ self.old.size }
     {
         self.climb.set_order(order);
-        let _climbed = climb(weights, &mut self.climb);
-        self.best.copy_from(self.climb.order());
+        let climbed = climb(weights, &mut self.climb).value;
+        self.keep_best(weights, climbed);
     }
 
     /// One round. None where it was the last.

@@ -1,12 +1,18 @@
-// What the list of rows starts with where no record is inherited: dicycles that are packed by falling thresholds, each
-// for an arc that goes back in a good order, and dicycles without a multiplier beside them.
+// What the list of rows starts with beside those of an inherited record: dicycles that are packed by falling thresholds
+// into what the record leaves, each for an arc that goes back in a good order, bundles of such arcs, and dicycles without
+// a multiplier beside them.
 ghost use Rattle.std.specs.Prelude.{◌≡◌, ◌<◌, ◌≤◌, length, IfOk};
 
-use crate::margins::{Margins, Span};
+use crate::bundle::{Bundle, bundle_arc};
+use crate::margins::{MOST, Margins, Span};
 use lop_ascent::AscentRoom;
 use lop_cuts::Cut;
 use lop_fix::Fixings;
+use lop_leaf::LeafRecord;
 use lop_model::{Order, Weights};
+
+/// The most dicycles with multipliers that are packed for arcs one by one.
+const MOST_SINGLE: usize = 2_560;
 
 /// The most rows with multipliers.
 const MOST_PACKED: usize = 3_584;
@@ -14,18 +20,43 @@ const MOST_PACKED: usize = 3_584;
 /// The most rows that a list starts with, where those without a multiplier fill it.
 const MOST_STARTED: usize = 3_072;
 
-/// The most thresholds: each is 7/8 of the one before.
+/// The most thresholds: each is at most 7/8 of the one before.
 const MOST_THRESHOLDS: u32 = 330;
 
-/// Which third objects are sought: between the ends of an arc, or before both.
+/// What is done with an arc that goes back.
 #[derive(Clone, Copy, PartialEq, Eq)]
 enum Way {
+    /// Dicycles by way of objects between its ends are packed.
     Between,
+    /// Dicycles by way of objects before both ends are packed.
     Before,
+    /// It is bundled with others.
+    Bundled,
+    /// The best dicycle is added without a multiplier.
+    BestBeside,
+    /// The second best is.
+    SecondBeside,
+}
+
+/// A pass over the arcs that go back: until there are so many rows, by thresholds that fall to that part less than they
+/// were, as long as they are above the least.
+#[derive(Clone, Copy)]
+struct Pass {
+    way: Way,
+    most: usize,
+    part: i64,
+    least: i64,
+}
+
+/// The margins at which a pass looks: from the threshold to below `above`.
+#[derive(Clone, Copy)]
+struct Band {
+    threshold: i64,
+    above: i64,
 }
 
 /// The object at a place, or 0 where there is none.
-fn object_at(order: &Order, place: usize) -> u16 {
+pub fn object_at(order: &Order, place: usize) -> u16 {
     if place < order.n() as usize {
         order.at(place as u16)
     } else {
@@ -59,10 +90,12 @@ fn pack_once(
     ensures { ascent.new.size ≡ ascent.old.size }
 {
     let thirds = match way {
-        Way::Between => margins.thirds(arc, arc.to.wrapping_add(1), arc.from),
         Way::Before => margins.thirds(arc, 0, arc.to),
+        Way::Between | Way::Bundled | Way::BestBeside | Way::SecondBeside => {
+            margins.thirds(arc, arc.to.wrapping_add(1), arc.from)
+        }
     };
-    let most = thirds.first_margin.min(margins.at(arc));
+    let most = thirds.first_margin.min(margins.free(arc));
     if most < threshold {
         margins.note_reach(arc, most);
         return false;
@@ -94,50 +127,36 @@ fn pack_arc(
     order: &Order,
     arc: Span,
     threshold: i64,
-    way: Way,
+    pass: Pass,
 )
     ensures { ascent.new.size ≡ ascent.old.size }
 {
     for _again in 0..order.n() {
-        if ascent.len() >= MOST_PACKED || !margins.may_reach(arc, threshold) {
+        if ascent.len() >= pass.most || !margins.may_reach(arc, threshold) {
             return;
         }
-        if !pack_once(margins, ascent, order, arc, threshold, way) {
+        if !pack_once(margins, ascent, order, arc, threshold, pass.way) {
             return;
         }
     }
 }
 
-/// Packs all arcs that go back, at a threshold. O(n²), and O(n) for each arc that reaches it.
-fn pack_at(margins: &mut Margins, ascent: &mut AscentRoom, order: &Order, threshold: i64, way: Way)
+/// Adds a dicycle of an arc without a multiplier, if its margin is within the band: the best one, or the second best.
+/// O(n).
+fn add_beside(
+    margins: &Margins,
+    ascent: &mut AscentRoom,
+    order: &Order,
+    arc: Span,
+    band: Band,
+    is_second: bool,
+)
     ensures { ascent.new.size ≡ ascent.old.size }
 {
-    for from in 0..margins.places() {
-        for to in 0..from {
-            pack_arc(margins, ascent, order, Span { from, to }, threshold, way);
-        }
+    let margin = margins.free(arc);
+    if margin < band.threshold || margin >= band.above {
+        return;
     }
-}
-
-/// Packs by thresholds that fall from the greatest margin, as long as they are above `least`.
-fn pack(margins: &mut Margins, ascent: &mut AscentRoom, order: &Order, least: i64, way: Way)
-    ensures { ascent.new.size ≡ ascent.old.size }
-{
-    margins.forget_reach();
-    let mut threshold = margins.greatest_back();
-    for _step in 0..MOST_THRESHOLDS {
-        if threshold <= least || ascent.len() >= MOST_PACKED {
-            return;
-        }
-        pack_at(margins, ascent, order, threshold, way);
-        threshold = threshold.saturating_sub((threshold / 8).max(1));
-    }
-}
-
-/// Adds a dicycle of an arc without a multiplier: the best one, or the second best. O(n).
-fn add_beside(margins: &Margins, ascent: &mut AscentRoom, order: &Order, arc: Span, is_second: bool)
-    ensures { ascent.new.size ≡ ascent.old.size }
-{
     let thirds = margins.thirds(arc, arc.to.wrapping_add(1), arc.from);
     if is_second {
         if thirds.second_margin > 0 {
@@ -148,49 +167,140 @@ fn add_beside(margins: &Margins, ascent: &mut AscentRoom, order: &Order, arc: Sp
     }
 }
 
-/// Adds dicycles beside, for the arcs that go back whose margin is from `threshold` to below `above`. O(n²), and O(n)
-/// for each of them.
-fn add_all_beside(
-    margins: &Margins,
+/// Does with an arc what the pass is for. Answers the bundle that is gathered then.
+fn visit(
+    margins: &mut Margins,
     ascent: &mut AscentRoom,
     order: &Order,
-    threshold: i64,
-    above: i64,
-    is_second: bool,
-)
+    arc: Span,
+    pass: Pass,
+    band: Band,
+    bundle: Bundle,
+) -> Bundle
     ensures { ascent.new.size ≡ ascent.old.size }
 {
-    for from in 0..margins.places() {
-        for to in 0..from {
-            let arc = Span { from, to };
-            let margin = margins.at(arc);
-            if margin >= threshold && margin < above && ascent.len() < MOST_STARTED {
-                add_beside(margins, ascent, order, arc, is_second);
-            }
+    match pass.way {
+        Way::Between | Way::Before => {
+            pack_arc(margins, ascent, order, arc, band.threshold, pass);
+            bundle
+        }
+        Way::Bundled => bundle_arc(margins, ascent, order, arc, band.threshold, bundle),
+        Way::BestBeside => {
+            add_beside(margins, ascent, order, arc, band, false);
+            bundle
+        }
+        Way::SecondBeside => {
+            add_beside(margins, ascent, order, arc, band, true);
+            bundle
         }
     }
+}
+
+/// Visits all arcs that go back, at a threshold. O(n²), and O(n) for each arc that reaches it.
+fn sweep_at(margins: &mut Margins, ascent: &mut AscentRoom, order: &Order, pass: Pass, band: Band)
+    ensures { ascent.new.size ≡ ascent.old.size }
+{
+    let mut bundle = Bundle::NONE;
+    for from in 0..margins.places() {
+        for to in 0..from {
+            if ascent.len() >= pass.most {
+                return;
+            }
+            bundle = visit(
+                margins,
+                ascent,
+                order,
+                Span { from, to },
+                pass,
+                band,
+                bundle,
+            );
+        }
+    }
+}
+
+/// Visits the arcs by thresholds that fall from the greatest margin.
+fn sweep(margins: &mut Margins, ascent: &mut AscentRoom, order: &Order, pass: Pass)
+    ensures { ascent.new.size ≡ ascent.old.size }
+{
+    margins.forget_reach();
+    let mut band = Band {
+        threshold: margins.greatest_back(),
+        above: MOST,
+    };
+    for _step in 0..MOST_THRESHOLDS {
+        if band.threshold <= pass.least || ascent.len() >= pass.most {
+            return;
+        }
+        sweep_at(margins, ascent, order, pass, band);
+        let less = fallen(band.threshold, pass.part);
+        band = Band {
+            threshold: less,
+            above: band.threshold,
+        };
+    }
+}
+
+/// The next threshold: that part less, and at least 1 less.
+fn fallen(threshold: i64, part: i64) -> i64 {
+    let by = if part >= 8 {
+        threshold / 8
+    } else {
+        threshold / 2
+    };
+    threshold.saturating_sub(by.max(1))
+}
+
+/// Packs by the residuals: dicycles for each arc, bundles where there are many, and dicycles by way of other objects.
+fn pack(margins: &mut Margins, ascent: &mut AscentRoom, order: &Order, part: i64, least: i64)
+    ensures { ascent.new.size ≡ ascent.old.size }
+{
+    let single = Pass {
+        way: Way::Between,
+        most: MOST_SINGLE,
+        part,
+        least,
+    };
+    sweep(margins, ascent, order, single);
+    if ascent.len() >= MOST_SINGLE {
+        let bundled = Pass {
+            way: Way::Bundled,
+            most: MOST_PACKED,
+            ..single
+        };
+        sweep(margins, ascent, order, bundled);
+    }
+    let before = Pass {
+        way: Way::Before,
+        most: MOST_PACKED,
+        ..single
+    };
+    sweep(margins, ascent, order, before);
 }
 
 /// Adds dicycles without multipliers for the arcs that go back, by falling margins.
-fn fill_up(margins: &Margins, ascent: &mut AscentRoom, order: &Order, least: i64, is_second: bool)
+fn fill_up(margins: &mut Margins, ascent: &mut AscentRoom, order: &Order, least: i64)
     ensures { ascent.new.size ≡ ascent.old.size }
 {
-    let mut threshold = margins.greatest_back();
-    let mut above = i64::MAX;
-    for _step in 0..MOST_THRESHOLDS {
-        if threshold <= least || ascent.len() >= MOST_STARTED {
-            return;
-        }
-        add_all_beside(margins, ascent, order, threshold, above, is_second);
-        above = threshold;
-        threshold = threshold.saturating_sub((threshold / 8).max(1));
-    }
+    let best = Pass {
+        way: Way::BestBeside,
+        most: MOST_STARTED,
+        part: 8,
+        least,
+    };
+    sweep(margins, ascent, order, best);
+    let second = Pass {
+        way: Way::SecondBeside,
+        ..best
+    };
+    sweep(margins, ascent, order, second);
 }
 
-/// Adds the rows that a list starts with, by an order that is good already.
+/// Adds rows beside those of the inherited record, by an order that is good already.
 pub fn start_rows(
     weights: &Weights,
     fixings: &Fixings,
+    start: &LeafRecord,
     order: &Order,
     margins: &mut Margins,
     ascent: &mut AscentRoom,
@@ -201,10 +311,11 @@ pub fn start_rows(
 {
     let scale = ascent.record_scale();
     margins.fill(weights, fixings, order, scale);
+    margins.charge(start, scale);
     let least = margins.sum_back() >> 20;
-    pack(margins, ascent, order, least, Way::Between);
-    pack(margins, ascent, order, least, Way::Before);
+    let part = if start.len() == 0 { 8 } else { 2 };
+    pack(margins, ascent, order, part, least);
     margins.fill(weights, fixings, order, scale);
-    fill_up(margins, ascent, order, least, false);
-    fill_up(margins, ascent, order, least, true);
+    margins.charge(start, scale);
+    fill_up(margins, ascent, order, least);
 }

@@ -1,7 +1,7 @@
-ghost use Rattle.std.specs.Prelude.{◌≡◌, OnOk};
+ghost use Rattle.std.specs.Prelude.{◌≡◌, OnOk, length};
 ghost use Rattle.lop_leaf.specs.Sound.{IsSoundTicket};
 
-use crate::{Judge, PackJudge};
+use crate::{CutJudge, Judge, PackJudge};
 use lop_fix::Fixings;
 use lop_leaf::{Evaluated, LeafRecord, PairRoom, Ticket, upper};
 use lop_model::{Pair, Weights};
@@ -63,6 +63,81 @@ fn root_of_a_three_fence(rt: HostRuntime) -> Result<(), Fail> {
     ];
     let found = root(rt.alloc(), 6, &fence)?;
     assert_eq!(rt; found, Some((18, pair(0, 1), 0, 6)));
+    Ok(())
+}
+
+// What the judge that cuts leaves: the bound and the value.
+fn by_cuts(
+    weights: &Weights,
+    ticket: &Ticket,
+    judge: &mut CutJudge,
+    into: &mut Evaluated,
+) -> (i128, i128)
+    requires same_n { judge.old ≡ weights.now.size }
+    requires room { length into.old.order ≡ weights.now.size }
+    requires ticket { IsSoundTicket weights.now ticket.now }
+{
+    judge.judge(weights, ticket, into);
+    (into.bound(), into.value())
+}
+
+fn with_judge(
+    alloc: Global,
+    weights: &Weights,
+    ticket: &Ticket,
+    into: &mut Evaluated,
+) -> Result<(i128, i128), AllocError>
+    requires room { length into.old.order ≡ weights.now.size }
+    requires ticket { IsSoundTicket weights.now ticket.now }
+{
+    let mut judge = CutJudge::new(alloc, weights.n())?;
+    Ok(by_cuts(weights, ticket, &mut judge, into))
+}
+
+fn with_result(
+    alloc: Global,
+    weights: &Weights,
+    ticket: &Ticket,
+) -> Result<(i128, i128), AllocError>
+    requires { IsSoundTicket weights.now ticket.now }
+{
+    let mut into = Evaluated::new(alloc, weights.n())?;
+    with_judge(alloc, weights, ticket, &mut into)
+}
+
+fn with_root(
+    alloc: Global,
+    weights: &Weights,
+    ticket: &mut Ticket,
+) -> Result<(i128, i128), AllocError>
+    requires { ticket.old.size ≡ weights.now.size }
+{
+    fill_root(alloc, weights, ticket)?;
+    with_result(alloc, weights, ticket)
+}
+
+fn root_by_cuts(
+    alloc: Global,
+    n: u16,
+    entries: &[i64],
+) -> Result<Option<(i128, i128)>, AllocError> {
+    let Ok(weights) = Weights::new(n, entries.to_vec(alloc)?) else {
+        return Ok(None);
+    };
+    let mut ticket = Ticket::new(alloc, weights.n())?;
+    Ok(Some(with_root(alloc, &weights, &mut ticket)?))
+}
+
+// An order keeps at most seven of the nine arcs of a three-fence, each of weight 2; packing shows 18.
+#[test]
+fn a_judge_that_cuts(rt: HostRuntime) -> Result<(), Fail> {
+    let fence: [i64; 36] = [
+        0, 0, 0, 2, 0, 0, 0, 0, 0, 0, 2, 0, 0, 0, 0, 0, 0, 2, 0, 2, 2, 0, 0, 0, 2, 0, 2, 0, 0, 0,
+        2, 2, 0, 0, 0, 0,
+    ];
+    let sectors: [i64; 9] = [0, 5, 1, 2, 0, 4, 3, 1, 0];
+    assert_eq!(rt; root_by_cuts(rt.alloc(), 6, &fence)?, Some((14, 14)));
+    assert_eq!(rt; root_by_cuts(rt.alloc(), 3, &sectors)?, Some((10, 10)));
     Ok(())
 }
 

@@ -1,5 +1,5 @@
 use Rattle.std.proofs.Common.{◌≡◌}
-use Rattle.lop_node.proofs.start.add_all_beside.Given as goal
+use Rattle.lop_node.proofs.start.sweep_at.Given as goal
 
 abbrev pub invariant-loop-from : goal.invariant-loop-from
 invariant-loop-from l = l.ascent.size ≡ l.fn.ascent.size

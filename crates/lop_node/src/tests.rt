@@ -8,8 +8,13 @@ use lop_model::{Pair, Weights};
 use std::alloc::{AllocError, Global};
 use std::test::Fail;
 
-// Writes the ticket of a root with the pair bound and no term.
-fn fill_root(alloc: Global, weights: &Weights, ticket: &mut Ticket) -> Result<(), AllocError>
+// Writes the ticket of a root with the pair bound and no term, where the best order known has this weight.
+fn fill_root(
+    alloc: Global,
+    weights: &Weights,
+    best: i128,
+    ticket: &mut Ticket,
+) -> Result<(), AllocError>
     requires { ticket.old.size ≡ weights.now.size }
     ensures { OnOk result (IsSoundTicket weights.now ticket.new) }
 {
@@ -18,7 +23,7 @@ fn fill_root(alloc: Global, weights: &Weights, ticket: &mut Ticket) -> Result<()
     let mut room = PairRoom::new(alloc, n)?;
     let rec = LeafRecord::new(alloc)?;
     let bound = upper(weights, &fixings, &rec, &mut room);
-    ticket.fill(0, bound, bound, &[], &rec);
+    ticket.fill(0, bound, best, &[], &rec);
     Ok(())
 }
 
@@ -35,7 +40,7 @@ fn root(
     let mut judge = PackJudge::new(alloc, n)?;
     let mut ticket = Ticket::new(alloc, n)?;
     let mut into = Evaluated::new(alloc, n)?;
-    fill_root(alloc, &weights, &mut ticket)?;
+    fill_root(alloc, &weights, 0, &mut ticket)?;
     judge.judge(&weights, &ticket, &mut into);
     Ok(Some((into.bound(), into.pair(), into.shown().len(), into.value())))
 }
@@ -112,7 +117,7 @@ fn with_root(
 ) -> Result<(i128, i128), AllocError>
     requires { ticket.old.size ≡ weights.now.size }
 {
-    fill_root(alloc, weights, ticket)?;
+    fill_root(alloc, weights, 0, ticket)?;
     with_result(alloc, weights, ticket)
 }
 

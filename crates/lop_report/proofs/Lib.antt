@@ -1,3 +1,4 @@
 pub mod Printed
 pub mod TotalLemmas
+pub mod DecimalLemmas
 pub mod Pieces

@@ -1,3 +1,4 @@
 pub mod Figures
+pub mod Decimal
 pub mod Lines
 pub mod AnswerText

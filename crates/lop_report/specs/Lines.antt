@@ -1,14 +1,19 @@
 -- The lines of an answer, as bytes.
-use Rattle.std.specs.Prelude.{ℕ, ◌+◌, ◌/◌, ◌%◌, Bool, ◌&&◌, List, [], ◌∷◌, ◌++◌, codes, decimal, length, slice_index, slice_index_or, ℤ, int_le, if◌then◌else◌}
+use Rattle.std.specs.Prelude.{ℕ, ◌+◌, Bool, ◌&&◌, List, [], ◌∷◌, ◌++◌, codes, decimal, length, slice_index, slice_index_or, ℤ, int_le, if◌then◌else◌}
 use Rattle.std.specs.Fmt.{signed_decimal}
 use Rattle.std.specs.List.{flat_map, range_with_len}
 use Rattle.lop_report.specs.declared.degree.Linearity.{Linearity}
 use Rattle.lop_report.specs.declared.degree.Linearity.TheVariants.{None, Parts}
 use Rattle.lop_report.specs.Figures.{linearity_parts}
+use Rattle.lop_report.specs.Decimal.{decimal_text, fraction_text}
 
 -- a word with its blank, and a number
 abbrev pub number_line : List ℕ → ℤ → List ℕ
 number_line word n = word ++ signed_decimal n ++ codes "\n"
+
+-- a word with its blank, and a number of units of 10^-k with its k decimals
+abbrev pub decimal_line : List ℕ → ℤ → ℕ → List ℕ
+decimal_line word value k = word ++ decimal_text value k ++ codes "\n"
 
 -- an object with a blank before it; objects count from 1 in every text
 abbrev pub object_word : ℕ → List ℕ
@@ -30,17 +35,10 @@ status_line value bound = if is_optimal value bound then codes "status optimal\n
 abbrev pub check_status_line : ℤ → ℤ → List ℕ
 check_status_line value bound = if is_optimal value bound then codes "status optimal\n" else codes "status bounded\n"
 
-abbrev pub digit_code : ℕ → ℕ
-digit_code d = 48 + d
-
--- a number below 10,000 with its leading zeros
-abbrev pub four_digits : ℕ → List ℕ
-four_digits r = digit_code (r / 1000) ∷ digit_code (r / 100 % 10) ∷ digit_code (r / 10 % 10) ∷ digit_code (r % 10) ∷ []
-
--- the whole ones, a point, and four decimals
+-- ten-thousandths with four decimals
 abbrev pub linearity_text : Linearity → List ℕ
 linearity_text None = codes "none"
-linearity_text (Parts p) = decimal (p / 10000) ++ codes "." ++ four_digits (p % 10000)
+linearity_text (Parts p) = fraction_text p 4
 
 abbrev pub linearity_line : ℤ → ℤ → List ℕ
 linearity_line value total = codes "linearity " ++ linearity_text (linearity_parts value total) ++ codes "\n"

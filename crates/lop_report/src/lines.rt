@@ -3,12 +3,15 @@ ghost use Rattle.std.specs.Prelude.{◌≡◌, ◌≤◌, ◌<◌, ◌+◌, ◌*
 ghost use Rattle.std.specs.List.{flat_map};
 ghost use Rattle.lop_desk.specs.Whole.{PrintsAll};
 ghost use Rattle.lop_desk.specs.Causes.{HasCause};
-ghost use Rattle.lop_report.specs.Lines.{number_line, order_line, object_word, status_line, check_status_line, linearity_line, linearity_text};
+ghost use Rattle.lop_report.specs.Lines.{number_line, decimal_line, order_line, object_word, status_line, check_status_line, linearity_line, linearity_text};
 ghost use Rattle.lop_report.specs.declared.degree.Linearity.TheVariants.{Parts};
 ghost use Rattle.lop_model.specs.declared.weights.TheConstants.{MAX_OBJECTS};
+ghost use Rattle.lop_report.specs.declared.decimal.TheConstants.{MAX_DECIMALS};
 
+use crate::decimal::{decimal_text, push_fraction};
 use crate::degree::Linearity;
-use crate::figures::{four_digits, linearity};
+use crate::figures::linearity;
+use arrayvec::ArrayString;
 use itoa::Buffer;
 use lop_desk::{Desk, DeskFailed, TextRoom, print_all};
 use lop_model::Order;
@@ -45,6 +48,26 @@ pub fn print_number<D: Desk>(
     room.clear();
     room.put(word);
     room.put(Buffer::new().format(number).as_bytes());
+    room.put(b"\n");
+    print_all(desk, room.bytes())
+}
+
+/// Prints a line of a word with its blank, and a number of units of 10^-k with its k decimals.
+pub fn print_decimal<D: Desk>(
+    word: &[u8],
+    value: i128,
+    decimals: u8,
+    desk: &mut D,
+    room: &mut TextRoom,
+) -> Result<(), DeskFailed>
+    requires word { length word.now ≤ 64 }
+    requires decimals { decimals ≤ MAX_DECIMALS }
+    ensures effect { PrintsAll (D.told desk.old) (D.told desk.new) (decimal_line word.now value decimals) result }
+    ensures cause { HasCause (D.faults desk.old) (D.faults desk.new) result }
+{
+    room.clear();
+    room.put(word);
+    room.put(decimal_text(value, decimals).as_str().as_bytes());
     room.put(b"\n");
     print_all(desk, room.bytes())
 }
@@ -138,7 +161,7 @@ fn put_parts(parts: u128, room: &mut TextRoom)
     ensures text { room.new ≡ room.old ++ linearity_text (Parts parts) }
     ensures short { length room.new ≤ length room.old + 64 }
 {
-    room.put(Buffer::new().format(parts / 10_000).as_bytes());
-    room.put(b".");
-    room.put(&four_digits((parts % 10_000) as u16));
+    let mut text = ArrayString::new();
+    push_fraction(parts, 4, &mut text);
+    room.put(text.as_str().as_bytes());
 }

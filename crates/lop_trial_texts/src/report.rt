@@ -1,12 +1,15 @@
 // Answers whose numbers are worked out by hand.
 ghost use Rattle.std.specs.Prelude.{◌≡◌, ◌≤◌, ◌^◌, unsigned_abs, IfSome};
 ghost use Rattle.std.specs.Option.{option_copied};
+ghost use Rattle.lop_report.specs.declared.decimal.TheConstants.{MAX_DECIMALS};
 
 use lop_desk::{MemoryDesk, TextRoom};
 use lop_model::{Order, Weights};
 use lop_preflib::{Profile, read_preflib};
 use lop_profile::pair_weights;
-use lop_report::{Answer, print_accepted, print_answer, print_generated, print_value};
+use lop_report::{
+    Answer, MAX_DECIMALS, decimal_text, print_accepted, print_answer, print_generated, print_value,
+};
 use std::alloc::Global;
 use std::process::Abort;
 use std::test::Fail;
@@ -37,6 +40,7 @@ fn solves(
 ) -> Result<(), Fail>
     requires profile { IfSome (option_copied profile) (λ p. p.size ≡ 3) }
     requires value { unsigned_abs answer.now.value ≤ 2 ^ 63 }
+    requires decimals { answer.now.decimals ≤ MAX_DECIMALS }
 {
     let order = Order::first(alloc, 3)?;
     assert_eq!(rt; (weights.n(), order.n()), (3, 3));
@@ -55,7 +59,8 @@ fn solves_profile(
     bytes: &str,
     text: &str,
 ) -> Result<(), Fail>
-    requires { unsigned_abs answer.now.value ≤ 2 ^ 63 }
+    requires value { unsigned_abs answer.now.value ≤ 2 ^ 63 }
+    requires decimals { answer.now.decimals ≤ MAX_DECIMALS }
 {
     let profile = read_preflib(alloc, bytes.as_bytes())?;
     let weights = pair_weights(alloc, &profile)?;
@@ -69,6 +74,7 @@ fn three_sectors(rt: HostRuntime) -> Result<(), Fail> {
         value: 10,
         bound: 10,
         nodes: 1,
+        decimals: 0,
     };
     let weights = sectors(rt.alloc())?;
     solves(
@@ -87,6 +93,7 @@ fn a_lunch_profile(rt: HostRuntime) -> Result<(), Fail> {
         value: 17,
         bound: 17,
         nodes: 1,
+        decimals: 0,
     };
     solves_profile(
         &rt,
@@ -103,6 +110,7 @@ fn voters_who_rank_one(rt: HostRuntime) -> Result<(), Fail> {
         value: 0,
         bound: 0,
         nodes: 0,
+        decimals: 0,
     };
     solves_profile(
         &rt,
@@ -118,15 +126,17 @@ fn weighs(
     rt: &impl Abort,
     alloc: Global,
     value: i128,
+    decimals: u8,
     weights: &Weights,
     profile: Option<&Profile>,
     text: &str,
 ) -> Result<(), Fail>
-    requires { unsigned_abs value ≤ 2 ^ 63 }
+    requires value { unsigned_abs value ≤ 2 ^ 63 }
+    requires decimals { decimals ≤ MAX_DECIMALS }
 {
     let mut desk = desk(alloc)?;
     let mut room = TextRoom::new(alloc)?;
-    print_value(value, weights, profile, &mut desk, &mut room)?;
+    print_value(value, decimals, weights, profile, &mut desk, &mut room)?;
     assert_eq!(rt; desk.printed(), text.as_bytes());
     Ok(())
 }
@@ -136,7 +146,9 @@ fn weighs(
 fn the_sectors_backwards(rt: HostRuntime) -> Result<(), Fail> {
     let alloc = rt.alloc();
     let text = "objects 3\nvalue 6\ntotal 16\nlinearity 0.3750\n";
-    weighs(&rt, alloc, 6, &sectors(alloc)?, None, text)
+    weighs(&rt, alloc, 6, 0, &sectors(alloc)?, None, text)?;
+    let text = "objects 3\nvalue 0.06\ntotal 0.16\nlinearity 0.3750\n";
+    weighs(&rt, alloc, 6, 2, &sectors(alloc)?, None, text)
 }
 
 #[test]
@@ -146,7 +158,7 @@ fn half_of_the_greatest_total(rt: HostRuntime) -> Result<(), Fail> {
     let entries: [i64; 4] = [0, half, half, 0];
     let weights = Weights::new(2, entries.to_vec(alloc)?)?;
     let text = "objects 2\nvalue 500000000000000000\ntotal 1000000000000000000\nlinearity 0.5000\n";
-    weighs(&rt, alloc, 500_000_000_000_000_000, &weights, None, text)
+    weighs(&rt, alloc, 500_000_000_000_000_000, 0, &weights, None, text)
 }
 
 #[test]
@@ -155,7 +167,7 @@ fn lunch_valued(rt: HostRuntime) -> Result<(), Fail> {
     let profile = read_preflib(alloc, LUNCH.as_bytes())?;
     let weights = pair_weights(alloc, &profile)?;
     let text = "objects 3\nvalue 17\ntotal 27\nlinearity 0.6296\nvoters 9\ndisagreements 10\n";
-    weighs(&rt, alloc, 17, &weights, Some(&profile), text)
+    weighs(&rt, alloc, 17, 0, &weights, Some(&profile), text)
 }
 
 #[test]
@@ -166,6 +178,7 @@ fn generated(rt: HostRuntime) -> Result<(), Fail> {
         value: 9,
         bound: 10,
         nodes: 1,
+        decimals: 0,
     };
     let mut desk = desk(alloc)?;
     print_generated(7, &answer, &sectors(alloc)?, &mut desk, &mut room)?;
@@ -179,10 +192,35 @@ fn accepted(rt: HostRuntime) -> Result<(), Fail> {
     let alloc = rt.alloc();
     let mut room = TextRoom::new(alloc)?;
     let mut desk = desk(alloc)?;
-    print_accepted(4, 4, &mut desk, &mut room)?;
-    print_accepted(4, 6, &mut desk, &mut room)?;
+    print_accepted(4, 4, 0, &mut desk, &mut room)?;
+    print_accepted(-4, 6, 1, &mut desk, &mut room)?;
     let text =
-        "accepted\nvalue 4\nbound 4\nstatus optimal\naccepted\nvalue 4\nbound 6\nstatus bounded\n";
+        "accepted\nvalue 4\nbound 4\nstatus optimal\naccepted\nvalue -0.4\nbound 0.6\nstatus bounded\n";
     assert_eq!(rt; desk.printed(), text.as_bytes());
+    Ok(())
+}
+
+/// Units of 10^-k, k, and how they are written.
+const DECIMALS: &[(i128, u8, &str)] = &[
+    (0, 0, "0"),
+    (-5, 0, "-5"),
+    (0, 1, "0.0"),
+    (-5, 1, "-0.5"),
+    (-80, 1, "-8.0"),
+    (175, 2, "1.75"),
+    (-1, 6, "-0.000001"),
+    (1_000_000_000_000_000_000, 6, "1000000000000.000000"),
+    (i128::MAX, 0, "170141183460469231731687303715884105727"),
+    (i128::MIN, 0, "-170141183460469231731687303715884105728"),
+    (i128::MAX, 6, "170141183460469231731687303715884.105727"),
+    (i128::MIN, 6, "-170141183460469231731687303715884.105728"),
+];
+
+#[test]
+fn decimals(rt: HostRuntime) -> Result<(), Fail> {
+    for (value, decimals, text) in DECIMALS {
+        assert!(rt; *decimals <= MAX_DECIMALS);
+        assert_eq!(rt; decimal_text(*value, *decimals).as_str(), *text);
+    }
     Ok(())
 }

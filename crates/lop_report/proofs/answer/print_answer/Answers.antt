@@ -8,8 +8,8 @@ use Rattle.lop_report.proofs.Printed.{cut_in_first, cut_in_second, cut_in_third,
 use Rattle.lop_report.proofs.TotalLemmas.{total_within, below_limit}
 use Rattle.lop_report.proofs.answer.print_answer.Goals as goal
 
-pub print_figure_lines-requires : goal.print_figure_lines-requires
-print_figure_lines-requires g c = below_limit c.args.answer.now.value c.requires.value
+pub print_figure_lines-requires-clause-value : goal.print_figure_lines-requires-clause-value
+print_figure_lines-requires-clause-value g c = below_limit c.args.answer.now.value c.requires.value
 
 pub print_voter_lines-requires-clause-total : goal.print_voter_lines-requires-clause-total
 print_voter_lines-requires-clause-total g c =
@@ -19,8 +19,8 @@ print_voter_lines-requires-clause-total g c =
 pub returns-in_err-print_order_lines-clause-effect : goal.returns-in_err-print_order_lines-clause-effect
 returns-in_err-print_order_lines-clause-effect g c =
     let C = c.args.weights.now in
-    let order : List ℕ = order_lines c.args.weights.now.size c.args.order.now c.args.answer.now.value c.args.answer.now.bound in
-    let figures : List ℕ = figure_lines c.args.answer.now.value c.args.answer.now.bound c.args.answer.now.nodes (total c.args.weights.now) in
+    let order : List ℕ = order_lines c.args.weights.now.size c.args.order.now c.args.answer.now.decimals c.args.answer.now.value c.args.answer.now.bound in
+    let figures : List ℕ = figure_lines c.args.answer.now.decimals c.args.answer.now.value c.args.answer.now.bound c.args.answer.now.nodes (total c.args.weights.now) in
     let votes : List ℕ = voter_lines (option_copied c.args.profile) c.args.answer.now.value (total c.args.weights.now) in
     let ranks : List ℕ = ranking (option_copied c.args.profile) c.args.order.now in
     cut_in_first order figures votes ranks _ _ _ _ c.from_residual.ensures.1 (rw c.requires.same_n at c.in_err-print_order_lines.ensures.effect)
@@ -28,8 +28,8 @@ returns-in_err-print_order_lines-clause-effect g c =
 pub returns-in_err-print_figure_lines-clause-effect : goal.returns-in_err-print_figure_lines-clause-effect
 returns-in_err-print_figure_lines-clause-effect g c =
     let fits : FitsSigned w128 c.total-total.result = search rules in
-    let order : List ℕ = order_lines c.args.weights.now.size c.args.order.now c.args.answer.now.value c.args.answer.now.bound in
-    let figures : List ℕ = figure_lines c.args.answer.now.value c.args.answer.now.bound c.args.answer.now.nodes (total c.args.weights.now) in
+    let order : List ℕ = order_lines c.args.weights.now.size c.args.order.now c.args.answer.now.decimals c.args.answer.now.value c.args.answer.now.bound in
+    let figures : List ℕ = figure_lines c.args.answer.now.decimals c.args.answer.now.value c.args.answer.now.bound c.args.answer.now.nodes (total c.args.weights.now) in
     let votes : List ℕ = voter_lines (option_copied c.args.profile) c.args.answer.now.value (total c.args.weights.now) in
     let ranks : List ℕ = ranking (option_copied c.args.profile) c.args.order.now in
     cut_in_second order figures votes ranks _ _ _ _ _ (rw c.requires.same_n at c.in_ok-print_order_lines.ensures.effect) c.from_residual-in_err-print_figure_lines.ensures.1
@@ -39,8 +39,8 @@ pub returns-in_err-print_voter_lines-clause-effect : goal.returns-in_err-print_v
 returns-in_err-print_voter_lines-clause-effect g c =
     let fits : FitsSigned w128 c.total-total.result = search rules in
     let value_fits : FitsSigned w128 c.args.answer.now.value = search rules in
-    let order : List ℕ = order_lines c.args.weights.now.size c.args.order.now c.args.answer.now.value c.args.answer.now.bound in
-    let figures : List ℕ = figure_lines c.args.answer.now.value c.args.answer.now.bound c.args.answer.now.nodes (total c.args.weights.now) in
+    let order : List ℕ = order_lines c.args.weights.now.size c.args.order.now c.args.answer.now.decimals c.args.answer.now.value c.args.answer.now.bound in
+    let figures : List ℕ = figure_lines c.args.answer.now.decimals c.args.answer.now.value c.args.answer.now.bound c.args.answer.now.nodes (total c.args.weights.now) in
     let votes : List ℕ = voter_lines (option_copied c.args.profile) c.args.answer.now.value (total c.args.weights.now) in
     let ranks : List ℕ = ranking (option_copied c.args.profile) c.args.order.now in
     cut_in_third order figures votes ranks _ _ _ _ _ _ (rw c.requires.same_n at c.in_ok-print_order_lines.ensures.effect)
@@ -52,8 +52,8 @@ pub returns-clause-effect : goal.returns-clause-effect
 returns-clause-effect g c =
     let fits : FitsSigned w128 c.total-total.result = search rules in
     let value_fits : FitsSigned w128 c.args.answer.now.value = search rules in
-    let order : List ℕ = order_lines c.args.weights.now.size c.args.order.now c.args.answer.now.value c.args.answer.now.bound in
-    let figures : List ℕ = figure_lines c.args.answer.now.value c.args.answer.now.bound c.args.answer.now.nodes (total c.args.weights.now) in
+    let order : List ℕ = order_lines c.args.weights.now.size c.args.order.now c.args.answer.now.decimals c.args.answer.now.value c.args.answer.now.bound in
+    let figures : List ℕ = figure_lines c.args.answer.now.decimals c.args.answer.now.value c.args.answer.now.bound c.args.answer.now.nodes (total c.args.weights.now) in
     let votes : List ℕ = voter_lines (option_copied c.args.profile) c.args.answer.now.value (total c.args.weights.now) in
     let ranks : List ℕ = ranking (option_copied c.args.profile) c.args.order.now in
     four_printed order figures votes ranks _ _ _ _ _ _ (rw c.requires.same_n at c.in_ok-print_order_lines.ensures.effect)

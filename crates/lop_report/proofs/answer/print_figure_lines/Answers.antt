@@ -2,7 +2,7 @@ use Rattle.std.proofs.Common.{rules, FitsSigned}
 use Rattle.std.specs.Prelude.{codes, pos, List, ℕ}
 use Rattle.std.specs.Int.{w128}
 use Rattle.std.proofs.lemmas.Int.{to_z-of_z}
-use Rattle.lop_report.specs.Lines.{number_line, status_line, linearity_line}
+use Rattle.lop_report.specs.Lines.{number_line, decimal_line, status_line, linearity_line}
 use Rattle.lop_report.proofs.Printed.{cut_in_first, cut_in_second, cut_in_third, four_printed}
 use Rattle.lop_report.proofs.answer.print_figure_lines.Goals as goal
 
@@ -12,7 +12,7 @@ returns-in_err-print_status-clause-effect g c =
     let bound_fits : FitsSigned w128 c.args.answer.now.bound = search rules in
     let status : List ℕ = status_line c.args.answer.now.value c.args.answer.now.bound in
     let nodes : List ℕ = number_line (codes "nodes ") (pos c.args.answer.now.nodes) in
-    let total : List ℕ = number_line (codes "total ") c.args.total in
+    let total : List ℕ = decimal_line (codes "total ") c.args.total c.args.answer.now.decimals in
     let linearity : List ℕ = linearity_line c.args.answer.now.value c.args.total in
     cut_in_first status nodes total linearity _ _ _ _ c.from_residual.ensures.1 (simp to_z-of_z at c.in_err-print_status.ensures.effect)
 
@@ -22,20 +22,20 @@ returns-in_err-print_count-clause-effect g c =
     let bound_fits : FitsSigned w128 c.args.answer.now.bound = search rules in
     let status : List ℕ = status_line c.args.answer.now.value c.args.answer.now.bound in
     let nodes : List ℕ = number_line (codes "nodes ") (pos c.args.answer.now.nodes) in
-    let total : List ℕ = number_line (codes "total ") c.args.total in
+    let total : List ℕ = decimal_line (codes "total ") c.args.total c.args.answer.now.decimals in
     let linearity : List ℕ = linearity_line c.args.answer.now.value c.args.total in
     cut_in_second status nodes total linearity _ _ _ _ _ (simp to_z-of_z at c.in_ok-print_status.ensures.effect) c.from_residual-in_err-print_count.ensures.1 c.in_err-print_count.ensures.effect
 
-pub returns-in_err-print_number-clause-effect : goal.returns-in_err-print_number-clause-effect
-returns-in_err-print_number-clause-effect g c =
+pub returns-in_err-print_decimal-clause-effect : goal.returns-in_err-print_decimal-clause-effect
+returns-in_err-print_decimal-clause-effect g c =
     let value_fits : FitsSigned w128 c.args.answer.now.value = search rules in
     let bound_fits : FitsSigned w128 c.args.answer.now.bound = search rules in
     let other_fits : FitsSigned w128 c.args.total = search rules in
     let status : List ℕ = status_line c.args.answer.now.value c.args.answer.now.bound in
     let nodes : List ℕ = number_line (codes "nodes ") (pos c.args.answer.now.nodes) in
-    let total : List ℕ = number_line (codes "total ") c.args.total in
+    let total : List ℕ = decimal_line (codes "total ") c.args.total c.args.answer.now.decimals in
     let linearity : List ℕ = linearity_line c.args.answer.now.value c.args.total in
-    cut_in_third status nodes total linearity _ _ _ _ _ _ (simp to_z-of_z at c.in_ok-print_status.ensures.effect) c.in_ok-print_count.ensures.effect c.from_residual-in_err-print_number.ensures.1 (simp to_z-of_z at c.in_err-print_number.ensures.effect)
+    cut_in_third status nodes total linearity _ _ _ _ _ _ (simp to_z-of_z at c.in_ok-print_status.ensures.effect) c.in_ok-print_count.ensures.effect c.from_residual-in_err-print_decimal.ensures.1 (simp to_z-of_z at c.in_err-print_decimal.ensures.effect)
 
 pub returns-clause-effect : goal.returns-clause-effect
 returns-clause-effect g c =
@@ -44,6 +44,6 @@ returns-clause-effect g c =
     let other_fits : FitsSigned w128 c.args.total = search rules in
     let status : List ℕ = status_line c.args.answer.now.value c.args.answer.now.bound in
     let nodes : List ℕ = number_line (codes "nodes ") (pos c.args.answer.now.nodes) in
-    let total : List ℕ = number_line (codes "total ") c.args.total in
+    let total : List ℕ = decimal_line (codes "total ") c.args.total c.args.answer.now.decimals in
     let linearity : List ℕ = linearity_line c.args.answer.now.value c.args.total in
-    four_printed status nodes total linearity _ _ _ _ _ _ (simp to_z-of_z at c.in_ok-print_status.ensures.effect) c.in_ok-print_count.ensures.effect (simp to_z-of_z at c.in_ok-print_number.ensures.effect) (simp to_z-of_z at c.print_linearity.ensures.effect)
+    four_printed status nodes total linearity _ _ _ _ _ _ (simp to_z-of_z at c.in_ok-print_status.ensures.effect) c.in_ok-print_count.ensures.effect (simp to_z-of_z at c.in_ok-print_decimal.ensures.effect) (simp to_z-of_z at c.print_linearity.ensures.effect)

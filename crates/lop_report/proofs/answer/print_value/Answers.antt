@@ -8,8 +8,8 @@ use Rattle.lop_report.specs.AnswerText.{value_lines, voter_lines}
 use Rattle.lop_report.proofs.TotalLemmas.{total_within, below_limit}
 use Rattle.lop_report.proofs.answer.print_value.Goals as goal
 
-pub print_value_lines-requires : goal.print_value_lines-requires
-print_value_lines-requires g c =
+pub print_value_lines-requires-clause-value : goal.print_value_lines-requires-clause-value
+print_value_lines-requires-clause-value g c =
     let fits : FitsSigned w128 c.args.value = search rules in
     rw (to_z-of_z w128 c.args.value fits) (below_limit c.args.value c.requires.value)
 
@@ -22,7 +22,7 @@ pub returns-in_err-print_value_lines-clause-effect : goal.returns-in_err-print_v
 returns-in_err-print_value_lines-clause-effect g c =
     let fits : FitsSigned w128 c.total-total.result = search rules in
     let value_fits : FitsSigned w128 c.args.value = search rules in
-    let first : List ℕ = value_lines c.args.weights.now.size c.args.value (total c.args.weights.now) in
+    let first : List ℕ = value_lines c.args.weights.now.size c.args.decimals c.args.value (total c.args.weights.now) in
     let rest : List ℕ = voter_lines (option_copied c.args.profile) c.args.value (total c.args.weights.now) in
     prints_cut _ _ first rest _ _ c.from_residual.ensures.1 (rw (c.total-total.ensures, c.n.ensures.size) at (simp to_z-of_z at c.in_err-print_value_lines.ensures.effect))
 
@@ -30,6 +30,6 @@ pub returns-clause-effect : goal.returns-clause-effect
 returns-clause-effect g c =
     let fits : FitsSigned w128 c.total-total.result = search rules in
     let value_fits : FitsSigned w128 c.args.value = search rules in
-    let first : List ℕ = value_lines c.args.weights.now.size c.args.value (total c.args.weights.now) in
+    let first : List ℕ = value_lines c.args.weights.now.size c.args.decimals c.args.value (total c.args.weights.now) in
     let rest : List ℕ = voter_lines (option_copied c.args.profile) c.args.value (total c.args.weights.now) in
     prints_then _ _ _ first rest _ (rw (c.total-total.ensures, c.n.ensures.size) at (simp to_z-of_z at c.in_ok-print_value_lines.ensures.effect)) (rw c.total-total.ensures at (simp to_z-of_z at c.print_voter_lines.ensures.effect))

@@ -7,7 +7,7 @@ use Rattle.std.proofs.lemmas.Bool.{and_parts, and_from, ne_eqb, le-leb, lt-ltb, 
 use Rattle.std.proofs.lemmas.Fmt.{digits_decimal, digits_value-decimal, decimal_nonempty}
 use Rattle.std.proofs.lemmas.Str.Parse.{IsNumeralModel, numerals_by_fold}
 use Rattle.lop_desk.specs.Number.{is_digit, all_digits, value_from, digits_value, unsigned_word, whole_value, is_whole_word}
-use Rattle.lop_lolib.specs.Words.{is_separator, words_of, is_number_word}
+use Rattle.lop_lolib.specs.Words.{is_separator, words_of, is_bounded_whole}
 use Rattle.lop_lolib.proofs.WordsLemmas.{words_of-separator, words_of-word}
 
 numerals : IsNumeralModel (λ ds. all_digits ds ≡ true) digits_value
@@ -72,7 +72,7 @@ whole-number (pos n) small =
     ap (λ (l : List ℕ). nat_lt 0 (length l) && all_digits l) bare ∙ and_from _ _ (lt-ltb 0 (length (decimal n)) (decimal_nonempty n (omega arith))) digits
 whole-number (negsuc n) small = and_from _ _ (lt-ltb 0 (length (decimal (suc n))) (decimal_nonempty (suc n) (omega arith))) (decimal_digits (suc n) (omega arith))
 
-pub number_word : (z : ℤ) → nat_abs z ≤ 10 ^ 18 → is_number_word (signed_decimal z) ≡ true
+pub number_word : (z : ℤ) → nat_abs z ≤ 10 ^ 18 → is_bounded_whole (signed_decimal z) ≡ true
 number_word z small = and_from _ _ (whole-number z small) (ap (λ (v : ℤ). nat_le (nat_abs v) (10 ^ 18)) (whole_value-number z small) ∙ le-leb (nat_abs z) (10 ^ 18) small)
 
 -- ---- a word in front

@@ -12,7 +12,7 @@ use Rattle.std.proofs.lemmas.List.Sums.{list_all-from_AllPass}
 use Rattle.lop_desk.specs.Number.{whole_value, is_whole_word}
 use Rattle.lop_model.specs.Matrix.{Matrix, IsWeights, matrix_of, entry, pair_absolute, absolute_total}
 use Rattle.lop_model.proofs.SumLemmas.{pair_sum-le, pair_sum-one}
-use Rattle.lop_lolib.specs.Words.{is_separator, words_of, is_number_word}
+use Rattle.lop_lolib.specs.Words.{is_separator, words_of, is_bounded_whole}
 use Rattle.lop_lolib.specs.Title.{first_line, from_first_word, to_line_end, is_line_end, is_title, to_last_word}
 use Rattle.lop_lolib.specs.Reading.{lolib_reading, titled, body_reading, words_reading, size_reading, rows_reading}
 use Rattle.lop_lolib.specs.declared.refusal.LolibRefusal.TheVariants.{SizeRange, TooHeavy, BadSize}
@@ -73,7 +73,7 @@ values_back (z ∷ zs) narrow =
     let others = values_back zs parts.1 in
     cc (first, others)
 
-numbers_back : (zs : List ℤ) → are_narrow zs ≡ true → (k : ℕ) → k < length zs → is_number_word (get_or (map signed_decimal zs) k []) ≡ true
+numbers_back : (zs : List ℤ) → are_narrow zs ≡ true → (k : ℕ) → k < length zs → is_bounded_whole (get_or (map signed_decimal zs) k []) ≡ true
 numbers_back [] narrow k below = absurd (omega arith)
 numbers_back (z ∷ zs) narrow zero below = number_word z (narrow-bound z (and_parts (is_narrow z) (are_narrow zs) narrow).0)
 numbers_back (z ∷ zs) narrow (suc k) below = numbers_back zs (and_parts (is_narrow z) (are_narrow zs) narrow).1 k (omega arith)

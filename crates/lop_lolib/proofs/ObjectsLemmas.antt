@@ -11,7 +11,7 @@ use Rattle.std.proofs.lemmas.Bool.Decides.{nat_tests, Decides-int_eq}
 use Rattle.lop_desk.specs.Number.{whole_value}
 use Rattle.lop_model.specs.Order.{IsOrder}
 use Rattle.lop_model.specs.OrderFault.{IsOrderBefore}
-use Rattle.lop_lolib.specs.Words.{is_number_word}
+use Rattle.lop_lolib.specs.Words.{is_bounded_whole}
 use Rattle.lop_lolib.specs.OrderReading.{is_object, object_of, number_at, is_misplaced, first_misplaced, place_refusal, objects_reading, number_count, numbers_reading}
 use Rattle.lop_lolib.specs.ClampedObject.{clamped_object}
 use Rattle.lop_lolib.specs.declared.order.OrderRefusal.{OrderRefusal}
@@ -23,7 +23,7 @@ object_in word = clamped_object (whole_value word)
 -- the first words are so many numbers, of which the first n at most are kept, and the other words are left
 pub record AreFirstObjects (n : ℕ) (words others : List (List ℕ)) (count : ℕ) (objects : List ℕ) : Type 0 where
   pub present : count ≤ length words
-  pub numbers : (k : ℕ) → k < count → is_number_word (get_or words k []) ≡ true
+  pub numbers : (k : ℕ) → k < count → is_bounded_whole (get_or words k []) ≡ true
   pub left : others ≡ drop count words
   pub kept : objects ≡ map object_in (take (length objects) words)
   pub many : length objects ≡ min count n
@@ -56,12 +56,12 @@ module _ (n : ℕ) (words left others : List (List ℕ)) (count : ℕ) (objects 
   here : (get_or words count [] ≡ word) × (drop (count + 1) words ≡ others)
   here = let e = left_is ∙ drop_more words count [] first_objects-further in (cc, cc)
 
-  numbers_more : is_number_word word ≡ true → (k : ℕ) → k < count + 1 → is_number_word (get_or words k []) ≡ true
+  numbers_more : is_bounded_whole word ≡ true → (k : ℕ) → k < count + 1 → is_bounded_whole (get_or words k []) ≡ true
   numbers_more number k below =
-      elim (cases_lt k count) [ inl before ↦ so_far.numbers k before | inr last ↦ let P : ℕ → Type 0 = λ i. is_number_word (get_or words i []) ≡ true in subst P (omega arith) (ap is_number_word here.0 ∙ number) ]
+      elim (cases_lt k count) [ inl before ↦ so_far.numbers k before | inr last ↦ let P : ℕ → Type 0 = λ i. is_bounded_whole (get_or words i []) ≡ true in subst P (omega arith) (ap is_bounded_whole here.0 ∙ number) ]
 
   -- one object more
-  pub first_objects-more : (object : ℕ) (longer : List ℕ) → count < n → longer ≡ objects ++ object ∷ [] → is_number_word word ≡ true → object ≡ object_in word → AreFirstObjects n words others (count + 1) longer
+  pub first_objects-more : (object : ℕ) (longer : List ℕ) → count < n → longer ≡ objects ++ object ∷ [] → is_bounded_whole word ≡ true → object ≡ object_in word → AreFirstObjects n words others (count + 1) longer
   first_objects-more object longer below is number object_is =
       let m = length objects in
       let all : m ≡ count = omega (arith, so_far.many) in
@@ -78,14 +78,14 @@ module _ (n : ℕ) (words left others : List (List ℕ)) (count : ℕ) (objects 
       }
 
   -- a number behind the n-th
-  pub first_objects-over : n ≤ count → is_number_word word ≡ true → AreFirstObjects n words others (count + 1) objects
+  pub first_objects-over : n ≤ count → is_bounded_whole word ≡ true → AreFirstObjects n words others (count + 1) objects
   first_objects-over full number =
       record { present = omega (arith, first_objects-further); numbers = numbers_more number; left = sym here.1; kept = so_far.kept; many = omega (arith, so_far.many) }
 
   -- a word that is no number
-  pub numbers_reading-bad : is_number_word word ≡ false → numbers_reading n words ≡ Err (BadWord count)
+  pub numbers_reading-bad : is_bounded_whole word ≡ false → numbers_reading n words ≡ Err (BadWord count)
   numbers_reading-bad bad =
-      let counted : number_count words ≡ count = prefix_len_is is_number_word words count [] so_far.present so_far.numbers (λ _. ap is_number_word here.0 ∙ bad) in
+      let counted : number_count words ≡ count = prefix_len_is is_bounded_whole words count [] so_far.present so_far.numbers (λ _. ap is_bounded_whole here.0 ∙ bad) in
       let test : nat_lt (number_count words) (length words) ≡ true = is_less _ _ (omega (arith, counted, first_objects-further)) in
       ap (λ (t : Bool). numbers_with n words t (length words == n)) test ∙ ap (λ (k : ℕ). Err (BadWord k)) counted
 
@@ -95,7 +95,7 @@ module _ (n : ℕ) (words left : List (List ℕ)) (count : ℕ) (objects : List 
 
   good : nat_lt (number_count words) (length words) ≡ false
   good =
-      let counted : number_count words ≡ count = prefix_len_is is_number_word words count [] so_far.present so_far.numbers (λ more. absurd (omega (arith, all))) in
+      let counted : number_count words ≡ count = prefix_len_is is_bounded_whole words count [] so_far.present so_far.numbers (λ more. absurd (omega (arith, all))) in
       is_not_less _ _ (omega (arith, counted, all))
 
   -- another number of words than n

@@ -3,7 +3,7 @@ use Rattle.std.specs.Prelude.{◌≡◌, ℕ, ◌-◌, Bool, not, ◌==◌, ◌|
 use Rattle.std.specs.List.{prefix_len, position_or_len, range_with_len, list_any}
 use Rattle.std.specs.Ordering.{int_eq}
 use Rattle.lop_desk.specs.Number.{whole_value}
-use Rattle.lop_lolib.specs.Words.{words_of, is_number_word}
+use Rattle.lop_lolib.specs.Words.{words_of, is_bounded_whole}
 use Rattle.lop_lolib.specs.declared.order.OrderRefusal.{OrderRefusal}
 use Rattle.lop_lolib.specs.declared.order.OrderRefusal.TheVariants.{BadWord, Length, OutOfRange, Repeated, Memory}
 
@@ -37,7 +37,7 @@ objects_reading n numbers =
 
 -- how many words in front are numbers
 abbrev pub number_count : List (List ℕ) → ℕ
-number_count words = prefix_len is_number_word words
+number_count words = prefix_len is_bounded_whole words
 
 -- the words are n numbers
 abbrev pub numbers_reading : ℕ → List (List ℕ) → Result (List ℕ) OrderRefusal

@@ -1,8 +1,8 @@
 -- The title of a text, and where its numbers begin.
 use Rattle.std.specs.Prelude.{ℕ, ◌+◌, ◌-◌, ◌==◌, Bool, not, List, [], length, take, drop, if◌then◌else◌}
 use Rattle.std.specs.List.{prefix_len, position_or_len, suffix_len, list_any}
-use Rattle.lop_desk.specs.Number.{is_whole_word}
 use Rattle.lop_lolib.specs.Words.{is_separator, words_of}
+use Rattle.lop_lolib.specs.Number.{is_decimal_word}
 
 -- an LF, which ends a line
 abbrev pub is_line_end : ℕ → Bool
@@ -24,11 +24,11 @@ to_line_end bytes = take (position_or_len is_line_end bytes) bytes
 abbrev pub first_line : List ℕ → List ℕ
 first_line bytes = to_line_end (from_first_word bytes)
 
--- a word of the line isn't whole
+-- a word of the line is no decimal number
 abbrev pub is_title : List ℕ → Bool
-is_title line = list_any (λ word. not (is_whole_word word)) (words_of line)
+is_title line = list_any (λ word. not (is_decimal_word word)) (words_of line)
 
--- the title: that line, from its first word to its last, where a word of it isn't whole
+-- the title: that line, from its first word to its last, where a word of it is no decimal number
 abbrev pub title_of : List ℕ → List ℕ
 title_of bytes = if is_title (first_line bytes) then to_last_word (first_line bytes) else []
 

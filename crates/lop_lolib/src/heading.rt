@@ -4,8 +4,8 @@ ghost use Rattle.std.specs.List.{position_or_len, suffix_len, prefix_len};
 ghost use Rattle.lop_lolib.specs.Words.{is_separator, words_of};
 ghost use Rattle.lop_lolib.specs.Title.{is_line_end, is_title, to_last_word, to_line_end, first_line, title_of, title_len};
 
+use crate::number::is_decimal;
 use crate::words::{Words, blank_len, is_separator};
-use lop_desk::is_whole;
 
 /// The title of a text, and the number of bytes up to the end of its line.
 #[derive(Clone, Copy, Drop)]
@@ -45,11 +45,11 @@ fn to_line_end(bytes: &[u8]) -> &[u8]
     bytes
 }
 
-// Whether a word of the line isn't whole.
+// Whether a word of the line is no decimal number.
 fn is_title(line: &[u8]) -> bool
     ensures { result ≡ is_title line.now }
 {
-    Words { rest: line }.any(|word| !is_whole(word))
+    Words { rest: line }.any(|word| !is_decimal(word))
 }
 
 // The bytes to the end of the last word.

@@ -3,7 +3,7 @@ ghost use Rattle.std.specs.Prelude.{◌≡◌, ◌≤◌, true, false, length, M
 ghost use Rattle.std.specs.List.{prefix_len, position_or_len};
 ghost use Rattle.std.specs.Iterator.{YieldsFirstBy, item_count};
 ghost use Rattle.lop_desk.specs.Number.{whole_value};
-ghost use Rattle.lop_lolib.specs.Words.{is_separator, is_number_word, words_of};
+ghost use Rattle.lop_lolib.specs.Words.{is_separator, is_bounded_whole, words_of};
 
 use lop_desk::whole_number;
 
@@ -65,8 +65,8 @@ impl<'a> Iterator for Words<'a> {
 
 // The number that a word spells, where it is whole and at most 10^18 in absolute value.
 pub(crate) fn number_of(word: &[u8]) -> Option<i64>
-    ensures { MatchOption result (is_number_word word.now ≡ false)
-        (λ number. (is_number_word word.now ≡ true) × (number ≡ whole_value word.now)) }
+    ensures { MatchOption result (is_bounded_whole word.now ≡ false)
+        (λ number. (is_bounded_whole word.now ≡ true) × (number ≡ whole_value word.now)) }
 {
     let number = whole_number(word)?;
     Some(number as i64)

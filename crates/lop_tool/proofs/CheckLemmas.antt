@@ -5,7 +5,7 @@ use Rattle.lop_desk.proofs.Printing.{rose_from}
 use Rattle.lop_certtext.proofs.Unique.{IsCheckAnswer-unique}
 use Rattle.lop_tool.specs.Names.{World, NamedFile, file_named, unread, with_opened, IsThere, IsMissing, Matrix, CheckAnswer}
 use Rattle.lop_tool.specs.Names.{IsCheckAnswer, accepted, too_long, Command, Check, Format, Instance, Refusal, Input}
-use Rattle.lop_tool.specs.Names.{LongCertificate, Rejection, Outcome, Accepted, Rejected, Stop, Rose, is_optimal}
+use Rattle.lop_tool.specs.Names.{LongCertificate, Rejection, Outcome, Accepted, Rejected, Stop, Rose, is_optimal, accepted_text}
 use Rattle.lop_tool.specs.declared.rejection.Rejection.TheVariants.{Certificate}
 use Rattle.lop_tool.specs.Told.{files_of, at_rest}
 use Rattle.lop_tool.specs.Input.{input_named}
@@ -80,8 +80,8 @@ accepted_at format file cert input value bound files checked = record {
   unrejected = λ rejection r. not_accepted rejection value bound (checked_once format file cert files r.input input (rejected_for rejection) (accepted value bound) r.checked checked);
 }
 
-outcome_right : (format : Format) (file cert : List ℕ) (input : Instance) (told : Option (List NamedFile)) (x : Outcome) → IsBounded input.weights x → IfSome told (λ files. IsChecked format file cert files input (answer_of x)) → IsReply told (Some (Check format file cert)) (outcome_status x) (outcome_text x) None
-outcome_right format file cert input told (Accepted value bound) bounded checked =
+outcome_right : (format : Format) (file cert : List ℕ) (input : Instance) (told : Option (List NamedFile)) (x : Outcome) → IsBounded input.weights input.decimals x → IfSome told (λ files. IsChecked format file cert files input (answer_of x)) → IsReply told (Some (Check format file cert)) (outcome_status x) (outcome_text x) None
+outcome_right format file cert input told (Accepted value bound k) bounded checked =
     done (is_optimal value bound) (told_map (λ files. IsChecked format file cert files input (accepted value bound)) (IsAccepted (Check format file cert)) told (accepted_at format file cert input value bound) checked) (record {
       input = input;
       value = value;
@@ -90,13 +90,13 @@ outcome_right format file cert input told (Accepted value bound) bounded checked
       weighed = bounded.0;
       bounds = bounded.1;
       optimal_is = refl;
-      text_is = refl;
+      text_is = ap (λ (d : ℕ). accepted_text d value bound) bounded.2;
       left_is = refl;
     })
 outcome_right format file cert input told (Rejected r) bounded checked =
     rejected_reply r (told_map (λ files. IsChecked format file cert files input (rejected_for r)) (λ files. RejectsCertificate format file cert files r) told (λ files c. record { input = input; checked = c }) checked) refl
 
-pub check_right : {E : Type 0} (format : Format) (file cert : List ℕ) (input : Instance) (old mid : Option World) (r : Result Outcome E) → at_rest mid ≡ at_rest old → IfSome old (λ w. input_named format w.files file ≡ Some (Ok input)) → IfOk r (IsBounded input.weights) → IfOk r (λ x. AnswersNamed input.weights cert mid (answer_of x))
+pub check_right : {E : Type 0} (format : Format) (file cert : List ℕ) (input : Instance) (old mid : Option World) (r : Result Outcome E) → at_rest mid ≡ at_rest old → IfSome old (λ w. input_named format w.files file ≡ Some (Ok input)) → IfOk r (IsBounded input.weights input.decimals) → IfOk r (λ x. AnswersNamed input.weights cert mid (answer_of x))
     → IfOk r (λ x. IsRight (files_of old) (Some (Check format file cert)) (outcome_status x) (outcome_text x) NoFile)
 check_right format file cert input old mid (Ok x) same read bounded answers =
     right_alone (files_of old) (Some (Check format file cert)) (outcome_status x) (outcome_text x) (outcome_right format file cert input (files_of old) x bounded

@@ -11,6 +11,6 @@ gen_accepted seed n (Some files) = record { unrefused = λ refusal wrong. wrong;
 
 pub gen_right : (seed n : ℕ) (told : Option (List NamedFile)) (x : Generation) → IsGenerated seed n x → IsRight told (Some (Gen seed n)) (done_status (generation_optimal x)) (generation_text x) NoFile
 gen_right seed n told x g =
-    let seed_is : generation_text x ≡ gen_text seed x.core.problem.weights (found_of x.core).value (found_of x.core).bound (found_of x.core).nodes = ap (λ (k : ℕ). gen_text k x.core.problem.weights (found_of x.core).value (found_of x.core).bound (found_of x.core).nodes) g.seed_is in
-    let text = seed_is ∙ ap (λ (C : Matrix). gen_text seed C (found_of x.core).value (found_of x.core).bound (found_of x.core).nodes) g.search.weights_are in
+    let seed_is : generation_text x ≡ gen_text seed x.core.problem.weights 0 (found_of x.core).value (found_of x.core).bound (found_of x.core).nodes = ap (λ (k : ℕ). gen_text k x.core.problem.weights 0 (found_of x.core).value (found_of x.core).bound (found_of x.core).nodes) g.seed_is in
+    let text = seed_is ∙ ap (λ (C : Matrix). gen_text seed C 0 (found_of x.core).value (found_of x.core).bound (found_of x.core).nodes) g.search.weights_are in
     right_alone told (Some (Gen seed n)) (done_status (generation_optimal x)) (generation_text x) (done (generation_optimal x) (gen_accepted seed n told) (record { found = found_of x.core; core = x.core; search = g.search; optimal_is = refl; text_is = text; left_is = refl }))

@@ -8,6 +8,7 @@ use Rattle.lop_core.proofs.NodeCount.{core_nodes_factorial}
 use Rattle.lop_core.proofs.Alone.{core_outcome, spent_above, bound_closed}
 use Rattle.lop_core.proofs.CoreLemmas.{core_bound}
 use Rattle.lop_core.proofs.Monotone.{core_from_start, core_packed, core_packed_closed}
+use Rattle.lop_report.specs.declared.decimal.TheConstants.{MAX_DECIMALS}
 use Rattle.lop_report.proofs.TotalLemmas.{within_limit}
 use Rattle.lop_tool.specs.Names.{Matrix, IsWeights, weight, packing_bound, Problem, state_bound, CoreFields, HasHistory}
 use Rattle.lop_tool.specs.Names.{prepared, IsFinished, IsBeckerOrder, IsClimbedFrom, Solution}
@@ -62,16 +63,17 @@ pub solved_from : (old core : CoreFields) → core.problem ≡ old.problem → I
 solved_from old core same p h f = subst (λ (q : Problem). IsSearchOf q.weights q.budget (found_of core) core) same (of_prepared core (subst IsPrepared (sym same) p) h f)
 
 -- its answer can be printed
-IsPrintable-solved : (budget : ℕ) (x : Solution) → IsSearchOf x.input.weights budget (found_of x.core) x.core → IsOfSize x.input.weights.size x.input.profile → IsPrintable x
-IsPrintable-solved budget x s of_size =
+IsPrintable-solved : (budget : ℕ) (x : Solution) → IsSearchOf x.input.weights budget (found_of x.core) x.core → IsOfSize x.input.weights.size x.input.profile → x.input.decimals ≤ MAX_DECIMALS → IsPrintable x
+IsPrintable-solved budget x s of_size decimals =
     let weighs = weight_within x.input.weights x.core.order s.searched.order in
     let most = s.searched.weights.bounded_sum in
     let best : x.core.state.best ≡ weight x.input.weights x.core.order = s.searched.value_is in record {
       same_n = s.searched.order.complete;
       value = within_limit x.core.state.best (omega (arith, ints, best, weighs.0, most)) (omega (arith, ints, best, weighs.1, most));
       of_size = of_size;
+      decimals = decimals;
     }
 
 -- the same, where the search is of the same weights
-pub IsPrintable-found : (C : Matrix) (budget : ℕ) (x : Solution) → C ≡ x.input.weights → IsSearchOf C budget (found_of x.core) x.core → IsOfSize x.input.weights.size x.input.profile → IsPrintable x
-IsPrintable-found C budget x same s of_size = IsPrintable-solved budget x (subst (λ (D : Matrix). IsSearchOf D budget (found_of x.core) x.core) same s) of_size
+pub IsPrintable-found : (C : Matrix) (budget : ℕ) (x : Solution) → C ≡ x.input.weights → IsSearchOf C budget (found_of x.core) x.core → IsOfSize x.input.weights.size x.input.profile → x.input.decimals ≤ MAX_DECIMALS → IsPrintable x
+IsPrintable-found C budget x same s of_size decimals = IsPrintable-solved budget x (subst (λ (D : Matrix). IsSearchOf D budget (found_of x.core) x.core) same s) of_size decimals

@@ -41,7 +41,7 @@ value_done : (format : Format) (file order_file : List ℕ) (input : Instance) (
 value_done format file order_file input old mid x same read weighs =
     let told : IfSome (files_of old) (λ files. input_named format files file ≡ Some (Ok input)) = told_files (λ files. input_named format files file ≡ Some (Ok input)) old read in
     let ordered : IfSome (files_of old) (λ files. order_named input.weights.size files order_file ≡ Some (Ok weighs.order)) = told_before (λ files. order_named input.weights.size files order_file ≡ Some (Ok weighs.order)) old mid same weighs.accepted_order in
-    let text : valuation_text x ≡ value_text input.weights input.profile (weight input.weights weighs.order) = ap (λ (i : Instance). value_text i.weights i.profile x.value) weighs.input_is ∙ ap (value_text input.weights input.profile) weighs.value_is in
+    let text : valuation_text x ≡ value_text input.weights input.profile input.decimals (weight input.weights weighs.order) = ap (λ (i : Instance). value_text i.weights i.profile i.decimals x.value) weighs.input_is ∙ ap (value_text input.weights input.profile input.decimals) weighs.value_is in
     done true (told_both (λ files. input_named format files file ≡ Some (Ok input)) (λ files. order_named input.weights.size files order_file ≡ Some (Ok weighs.order)) (IsAccepted (Value format file order_file)) (files_of old) (value_accepted format file order_file input weighs.order) told ordered) (record {
       input = input;
       order = weighs.order;

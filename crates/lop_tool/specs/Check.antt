@@ -1,6 +1,7 @@
 -- What `check` promises.
-use Rattle.std.specs.Prelude.{◌≡◌, ◌⊎◌, ℕ, ℤ, Bool, List, Option, None, Some, IfSome, Ok, ⊤, [], ◌∷◌}
+use Rattle.std.specs.Prelude.{◌≡◌, ◌≤◌, ◌⊎◌, ℕ, ℤ, Bool, List, Option, None, Some, IfSome, Ok, ⊤, [], ◌∷◌}
 use Rattle.lop_model.specs.Attained.{IsAttained}
+use Rattle.lop_report.specs.declared.decimal.TheConstants.{MAX_DECIMALS}
 use Rattle.lop_tool.specs.Names.{World, NamedFile, file_named, unread, Rose, IsMissing, Matrix, IsUpperBound, CheckAnswer}
 use Rattle.lop_tool.specs.Names.{accepted, rejected, too_long, IsCheckAnswer, is_optimal, accepted_text, Format, Instance}
 use Rattle.lop_tool.specs.Names.{Refusal, LongCertificate, Input, Rejection, Status, Outcome, Accepted, Rejected, Stop}
@@ -31,7 +32,7 @@ pub record Accepts (format : Format) (file cert : List ℕ) (told : Option (List
   pub weighed : IsAttained input.weights value
   pub bounds : IsUpperBound input.weights bound
   pub optimal_is : optimal ≡ is_optimal value bound
-  pub text_is : text ≡ accepted_text value bound
+  pub text_is : text ≡ accepted_text input.decimals value bound
   pub left_is : left ≡ None
 
 -- the answer that a rejection stands for
@@ -62,21 +63,27 @@ check_steps format file cert = record {
 
 -- the checker's answer that an outcome stands for
 abbrev pub answer_of : Outcome → CheckAnswer
-answer_of (Accepted value bound) = accepted value bound
+answer_of (Accepted value bound k) = accepted value bound
 answer_of (Rejected rejection) = rejected_for rejection
 
 abbrev pub outcome_text : Outcome → List ℕ
-outcome_text (Accepted value bound) = accepted_text value bound
+outcome_text (Accepted value bound k) = accepted_text k value bound
 outcome_text (Rejected rejection) = rejection_line rejection
 
 abbrev pub outcome_status : Outcome → Status
-outcome_status (Accepted value bound) = done_status (is_optimal value bound)
+outcome_status (Accepted value bound k) = done_status (is_optimal value bound)
 outcome_status (Rejected rejection) = status.Rejected
 
--- an accepted value is the weight of some order, and no order weighs more than the accepted bound
-abbrev pub IsBounded : Matrix → Outcome → Type 0
-IsBounded C (Accepted value bound) = IsAttained C value × IsUpperBound C bound
-IsBounded C (Rejected rejection) = ⊤
+-- an accepted value is the weight of some order of the instance, no order weighs more than the accepted bound, and both
+-- are in the instance's units
+abbrev pub IsBounded : Matrix → ℕ → Outcome → Type 0
+IsBounded C decimals (Accepted value bound k) = IsAttained C value × IsUpperBound C bound × (k ≡ decimals)
+IsBounded C decimals (Rejected rejection) = ⊤
+
+-- what printing asks of it
+abbrev pub IsPrintableOutcome : Outcome → Type 0
+IsPrintableOutcome (Accepted value bound k) = k ≤ MAX_DECIMALS
+IsPrintableOutcome (Rejected rejection) = ⊤
 
 -- what the bytes that are still to be read come to, or why they come to nothing
 abbrev pub AnswersRest : Matrix → Option World → CheckAnswer → Type 0

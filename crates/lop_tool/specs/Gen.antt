@@ -5,13 +5,13 @@ use Rattle.lop_tool.specs.Names.{NamedFile, CoreFields, is_optimal, gen_text, Ge
 use Rattle.lop_tool.specs.Search.{Found, found_of, IsSearchOf}
 use Rattle.lop_tool.specs.Steps.{Steps}
 
--- this was found in the weights that the seed gives with ten nodes at most, and the text tells its numbers
+-- this was found in the weights that the seed gives with ten nodes at most, and the text tells its numbers, which are whole
 pub record Generates (seed n : ℕ) (optimal : Bool) (text : List ℕ) (left : Option NamedFile) : Type 0 where
   pub found : Found
   pub core : CoreFields
   pub search : IsSearchOf (generated_matrix seed n) 10 found core
   pub optimal_is : optimal ≡ is_optimal found.value found.bound
-  pub text_is : text ≡ gen_text seed (generated_matrix seed n) found.value found.bound found.nodes
+  pub text_is : text ≡ gen_text seed (generated_matrix seed n) 0 found.value found.bound found.nodes
   pub left_is : left ≡ None
 
 -- it reads no file
@@ -20,7 +20,7 @@ gen_steps seed n = record { reads = []; refuses = λ told refusal. ⊥; rejects 
 
 -- the reply: its text, and whether value and bound are the same
 abbrev pub generation_text : Generation → List ℕ
-generation_text x = gen_text x.seed x.core.problem.weights x.core.state.best (found_of x.core).bound x.core.state.evaluated
+generation_text x = gen_text x.seed x.core.problem.weights 0 x.core.state.best (found_of x.core).bound x.core.state.evaluated
 
 abbrev pub generation_optimal : Generation → Bool
 generation_optimal x = is_optimal (found_of x.core).value (found_of x.core).bound

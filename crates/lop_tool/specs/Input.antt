@@ -11,17 +11,17 @@ use Rattle.lop_tool.specs.Names.{ProfileFault, Format, Instance, InputRefusal, T
 use Rattle.lop_words.specs.declared.command.Format.TheVariants as format
 use Rattle.lop_tool.specs.declared.refusal.OrderFileRefusal.TheVariants.{TooLong as LongOrder, Order}
 
--- a matrix is an instance without a profile
+-- a matrix is an instance without a profile, in the units of its file
 abbrev pub matrix_instance : Result LolibFile LolibRefusal → Result Instance InputRefusal
-matrix_instance (Ok file) = Ok (record { weights = file.weights; profile = None })
+matrix_instance (Ok file) = Ok (record { weights = file.weights; profile = None; decimals = file.decimals })
 matrix_instance (Err refusal) = Err (Lolib refusal)
 
 -- a profile with its weights
 abbrev pub weighed_instance : ProfileFields → Result Matrix ProfileFault → Result Instance InputRefusal
-weighed_instance profile (Ok C) = Ok (record { weights = C; profile = Some profile })
+weighed_instance profile (Ok C) = Ok (record { weights = C; profile = Some profile; decimals = 0 })
 weighed_instance profile (Err fault) = Err (Profile fault)
 
--- the orders of voters are an instance by their preference matrix
+-- the orders of voters are an instance by their preference matrix, whose entries are whole
 abbrev pub profile_instance : Result ProfileFields PrefRefusal → Result Instance InputRefusal
 profile_instance (Ok profile) = weighed_instance profile (profile_reading profile)
 profile_instance (Err refusal) = Err (Preflib refusal)

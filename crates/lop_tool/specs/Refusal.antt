@@ -1,7 +1,7 @@
 -- The line of a refusal.
 use Rattle.std.specs.Prelude.{ℕ, List, [], ◌++◌, codes, decimal}
 use Rattle.std.specs.Fmt.{signed_decimal}
-use Rattle.lop_lolib.specs.declared.refusal.LolibRefusal.TheVariants.{Empty, BadSize, SizeRange, BadEntry, TooWide, Short, TooHeavy, Memory}
+use Rattle.lop_lolib.specs.declared.refusal.LolibRefusal.TheVariants.{Empty, BadSize, SizeRange, BadEntry, TooFine, TooWide, Short, TooHeavy, Memory}
 use Rattle.lop_tool.specs.Names.{LolibRefusal, OrderRefusal, PrefRefusal, ProfileFault, Refusal, Input, Order}
 use Rattle.lop_tool.specs.Names.{LongCertificate, OrderFileRefusal, InputRefusal, TooLong, Lolib, Preflib, Profile}
 use Rattle.lop_lolib.specs.declared.order.OrderRefusal.TheVariants as order
@@ -15,6 +15,7 @@ lolib_refusal_words Empty = codes "empty"
 lolib_refusal_words (BadSize position) = codes "bad-size " ++ decimal position
 lolib_refusal_words (SizeRange n) = codes "size-range " ++ signed_decimal n
 lolib_refusal_words (BadEntry index) = codes "bad-entry " ++ decimal index
+lolib_refusal_words (TooFine index) = codes "too-fine " ++ decimal index
 lolib_refusal_words (TooWide index) = codes "too-wide " ++ decimal index
 lolib_refusal_words (Short count) = codes "short " ++ decimal count
 lolib_refusal_words (TooHeavy sum) = codes "too-heavy " ++ signed_decimal sum

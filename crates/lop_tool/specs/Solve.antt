@@ -1,6 +1,7 @@
 -- What `solve` promises.
 use Rattle.std.specs.Prelude.{◌≡◌, ◌≤◌, ◌^◌, ℕ, Bool, List, length, unsigned_abs, Option, Some, IfSome, Ok, [], ◌∷◌}
 use Rattle.lop_tool.specs.Names.{NamedFile, CoreFields, is_optimal, solve_text, Format, Instance, Solution, Input}
+use Rattle.lop_report.specs.declared.decimal.TheConstants.{MAX_DECIMALS}
 use Rattle.lop_tool.specs.Input.{input_named, IsOfSize}
 use Rattle.lop_tool.specs.Search.{Found, found_of, IsSearchOf}
 use Rattle.lop_tool.specs.Certificate.{LeavesCertificate}
@@ -8,7 +9,7 @@ use Rattle.lop_tool.specs.Steps.{Steps, RefusesFirst, NoMore}
 
 -- the text of what was found in an instance
 abbrev pub found_text : Instance → Found → List ℕ
-found_text input x = solve_text input.weights input.profile x.order x.value x.bound x.nodes
+found_text input x = solve_text input.weights input.profile input.decimals x.order x.value x.bound x.nodes
 
 -- the file is accepted with this instance, this was found in its weights with the node budget, the text tells it, and
 -- the certificate of the search is left under the name, if one is given
@@ -49,3 +50,4 @@ pub record IsPrintable (x : Solution) : Type 0 where
   pub same_n : length x.core.order ≡ x.input.weights.size
   pub value : unsigned_abs x.core.state.best ≤ 2 ^ 63
   pub of_size : IsOfSize x.input.weights.size x.input.profile
+  pub decimals : x.input.decimals ≤ MAX_DECIMALS

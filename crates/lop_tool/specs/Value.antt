@@ -1,7 +1,8 @@
 -- What `value` promises.
-use Rattle.std.specs.Prelude.{◌≡◌, ℕ, Bool, true, List, Option, None, Some, IfSome, Ok, [], ◌∷◌, ◌⊎◌}
+use Rattle.std.specs.Prelude.{◌≡◌, ◌≤◌, ◌^◌, unsigned_abs, ℕ, Bool, true, List, Option, None, Some, IfSome, Ok, [], ◌∷◌, ◌⊎◌}
 use Rattle.lop_tool.specs.Names.{World, NamedFile, IsOrder, weight, value_text, Format, Instance, Valuation, Input, Order}
 use Rattle.lop_tool.specs.Names.{Stop, Rose, IsMissing}
+use Rattle.lop_report.specs.declared.decimal.TheConstants.{MAX_DECIMALS}
 use Rattle.lop_tool.specs.Input.{input_named, order_named}
 use Rattle.lop_tool.specs.Steps.{Steps, RefusesFirst, NoMore, StopsFor}
 
@@ -13,7 +14,7 @@ pub record Weighs (format : Format) (file order_file : List ℕ) (told : Option 
   pub accepted_order : IfSome told (λ files. order_named input.weights.size files order_file ≡ Some (Ok order))
   pub is_order : IsOrder input.weights.size order
   pub optimal_is : optimal ≡ true
-  pub text_is : text ≡ value_text input.weights input.profile (weight input.weights order)
+  pub text_is : text ≡ value_text input.weights input.profile input.decimals (weight input.weights order)
   pub left_is : left ≡ None
 
 -- it reads two files: the order's is refused by the number of objects of the first
@@ -28,7 +29,12 @@ value_steps format file order_file = record {
 
 -- the reply's text
 abbrev pub valuation_text : Valuation → List ℕ
-valuation_text x = value_text x.input.weights x.input.profile x.value
+valuation_text x = value_text x.input.weights x.input.profile x.input.decimals x.value
+
+-- what printing asks of it
+pub record IsPrintableValue (x : Valuation) : Type 0 where
+  pub value : unsigned_abs x.value ≤ 2 ^ 63
+  pub decimals : x.input.decimals ≤ MAX_DECIMALS
 
 -- the reply is the weight of the order under a name
 pub record WeighsNamed (input : Instance) (name : List ℕ) (told : Option World) (x : Valuation) : Type 0 where

@@ -3,9 +3,10 @@ ghost use Rattle.std.specs.Prelude.{◌≡◌, ◌≤◌, Some, IfOk, IfErr};
 ghost use Rattle.lop_desk.specs.Desk.{IsOpen};
 ghost use Rattle.lop_desk.specs.Whole.{OnlyOpens};
 ghost use Rattle.lop_words.specs.declared.command.Command.TheVariants.{Check};
+ghost use Rattle.lop_report.specs.declared.decimal.TheConstants.{MAX_DECIMALS};
 ghost use Rattle.lop_tool.specs.Status.{number};
 ghost use Rattle.lop_tool.specs.Told.{files_of};
-ghost use Rattle.lop_tool.specs.Check.{answer_of, outcome_text, outcome_status, IsBounded, AnswersRest, RestStop, AnswersNamed, NamedStop};
+ghost use Rattle.lop_tool.specs.Check.{answer_of, outcome_text, outcome_status, IsBounded, IsPrintableOutcome, AnswersRest, RestStop, AnswersNamed, NamedStop};
 ghost use Rattle.lop_tool.specs.Reply.{IsRight};
 ghost use Rattle.lop_tool.specs.Ended.{Ended, StopCause, NoFile};
 
@@ -25,13 +26,14 @@ use std::alloc::Global;
 /// What a certificate comes to.
 #[derive(Clone, Copy)]
 pub enum Outcome {
-    Accepted { value: i64, bound: i64 },
+    /// Both in units of 10^-k.
+    Accepted { value: i64, bound: i64, decimals: u8 },
     Rejected(Rejection),
 }
 
 impl Reply for Outcome {
     ghost use Rattle.std.specs.Prelude.{⊤};
-    ghost use Rattle.lop_tool.specs.Check.{outcome_text, outcome_status};
+    ghost use Rattle.lop_tool.specs.Check.{outcome_text, outcome_status, IsPrintableOutcome};
     ghost use Rattle.lop_tool.specs.Ended.{NoFile};
 
     ghost text = { outcome_text };
@@ -42,11 +44,11 @@ impl Reply for Outcome {
 
     ghost begun = { λ _ _. ⊤ };
 
-    ghost printable = { λ _. ⊤ };
+    ghost printable = { IsPrintableOutcome };
 
     fn status(&self) -> Status {
         match self {
-            Outcome::Accepted { value, bound } => done_status(
+            Outcome::Accepted { value, bound, .. } => done_status(
                 i128::from(*value),
                 i128::from(*bound),
             ),
@@ -60,9 +62,11 @@ impl Reply for Outcome {
 
     fn print<D: Desk>(&self, desk: &mut D, room: &mut TextRoom) -> Result<(), DeskFailed> {
         match self {
-            Outcome::Accepted { value, bound } => {
-                print_accepted(i128::from(*value), i128::from(*bound), desk, room)
-            }
+            Outcome::Accepted {
+                value,
+                bound,
+                decimals,
+            } => print_accepted(i128::from(*value), i128::from(*bound), *decimals, desk, room),
             Outcome::Rejected(rejection) => rejection.print(desk, room),
         }
     }
@@ -96,10 +100,11 @@ fn check_file<D: Desk>(
     ensures world { OnlyOpens (D.told desk.old) (D.told desk.new) }
     ensures later { D.faults desk.old ≤ D.faults desk.new }
     ensures right { IfOk result (λ x. IsRight (files_of (D.told desk.old)) (Some (Check format file.now cert.now)) (outcome_status x) (outcome_text x) NoFile) }
+    ensures printable { IfOk result IsPrintableOutcome }
     ensures stop { IfErr result (StopCause (Check format file.now cert.now) (D.told desk.old) (D.faults desk.old) (D.faults desk.new)) }
 {
     match read_input(alloc, format, file, desk) {
-        Ok(Ok(input)) => check_named(alloc, &input.weights, cert, desk),
+        Ok(Ok(input)) => check_named(alloc, &input.weights, input.decimals, cert, desk),
         Ok(Err(refusal)) => Err(Stop::Refused(Refusal::Input(refusal))),
         Err(stop) => Err(stop),
     }
@@ -109,20 +114,23 @@ fn check_file<D: Desk>(
 fn check_named<D: Desk>(
     alloc: Global,
     weights: &Weights,
+    decimals: u8,
     cert: &str,
     desk: &mut D,
 ) -> Result<Outcome, Stop>
+    requires { decimals ≤ MAX_DECIMALS }
     ensures world { OnlyOpens (D.told desk.old) (D.told desk.new) }
     ensures later { D.faults desk.old ≤ D.faults desk.new }
     ensures answer { IfOk result (λ x. AnswersNamed weights.now cert.now (D.told desk.old) (answer_of x)) }
-    ensures bounded { IfOk result (IsBounded weights.now) }
+    ensures bounded { IfOk result (IsBounded weights.now decimals) }
+    ensures printable { IfOk result IsPrintableOutcome }
     ensures stop { IfErr result (NamedStop weights.now cert.now (D.told desk.old) (D.faults desk.old) (D.faults desk.new)) }
 {
     let Ok(mut room) = CheckRoom::new(alloc, weights.n()) else {
         return Err(Stop::Memory);
     };
     match desk.open_file(cert) {
-        Ok(()) => check_opened(weights, desk, &mut room),
+        Ok(()) => check_opened(weights, decimals, desk, &mut room),
         Err(OpenFault::Memory) => Err(Stop::Memory),
         Err(OpenFault::Failed | OpenFault::Missing) => Err(Stop::Fault),
     }
@@ -131,19 +139,26 @@ fn check_named<D: Desk>(
 // The certificate stands open at its beginning.
 fn check_opened<D: Desk>(
     weights: &Weights,
+    decimals: u8,
     desk: &mut D,
     room: &mut CheckRoom,
 ) -> Result<Outcome, Stop>
     requires same_n { room.old.size ≡ weights.now.size }
     requires opened { IsOpen (D.told desk.old) }
+    requires decimals { decimals ≤ MAX_DECIMALS }
     ensures world { OnlyOpens (D.told desk.old) (D.told desk.new) }
     ensures later { D.faults desk.old ≤ D.faults desk.new }
     ensures answer { IfOk result (λ x. AnswersRest weights.now (D.told desk.old) (answer_of x)) }
-    ensures bounded { IfOk result (IsBounded weights.now) }
+    ensures bounded { IfOk result (IsBounded weights.now decimals) }
+    ensures printable { IfOk result IsPrintableOutcome }
     ensures stop { IfErr result (RestStop weights.now (D.told desk.old) (D.faults desk.old) (D.faults desk.new)) }
 {
     match lop_check::check(weights, desk, room) {
-        Verdict::Accepted { value, bound } => Ok(Outcome::Accepted { value, bound }),
+        Verdict::Accepted { value, bound } => Ok(Outcome::Accepted {
+            value,
+            bound,
+            decimals,
+        }),
         Verdict::Rejected { line, reason } => {
             Ok(Outcome::Rejected(Rejection::Certificate { line, reason }))
         }

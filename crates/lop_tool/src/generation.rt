@@ -2,6 +2,7 @@
 ghost use Rattle.std.specs.Prelude.{◌≡◌, ◌≤◌, Some, IfOk};
 ghost use Rattle.lop_gen.specs.Text.{HasNarrowDiagonal};
 ghost use Rattle.lop_words.specs.declared.command.Command.TheVariants.{Gen};
+ghost use Rattle.lop_model.specs.declared.weights.TheConstants.{MAX_OBJECTS};
 ghost use Rattle.lop_tool.specs.Status.{number};
 ghost use Rattle.lop_tool.specs.Gen.{IsGenerated, generation_text, generation_optimal};
 ghost use Rattle.lop_tool.specs.Ended.{Ended, NoFile};
@@ -59,7 +60,7 @@ impl Reply for Generation {
     fn print<D: Desk>(&self, desk: &mut D, room: &mut TextRoom) -> Result<(), DeskFailed> {
         print_generated(
             self.seed,
-            &answer_of(&self.core),
+            &answer_of(&self.core, 0),
             self.core.weights(),
             desk,
             room,
@@ -76,7 +77,7 @@ pub fn generated<R: Threads + Sync, D: Desk, G: Gate>(
     room: &mut TextRoom,
 ) -> Status
     requires positive { 1 ≤ n }
-    requires within_limit { n ≤ 512 }
+    requires within_limit { n ≤ MAX_OBJECTS }
     ensures later { D.faults desk.old ≤ D.faults desk.new }
     ensures ended { Ended (Some (Gen seed n)) (D.told desk.old) (D.told desk.new) (D.faults desk.old) (D.faults desk.new) (number result) }
 {
@@ -93,7 +94,7 @@ fn search_generated<R: Threads + Sync, G: Gate>(
     n: u16,
 ) -> Result<Generation, AllocError>
     requires positive { 1 ≤ n }
-    requires within_limit { n ≤ 512 }
+    requires within_limit { n ≤ MAX_OBJECTS }
     ensures { IfOk result (IsGenerated seed n) }
 {
     let weights = generate(means.alloc, seed, n)?;

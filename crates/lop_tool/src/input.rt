@@ -5,6 +5,7 @@ ghost use Rattle.lop_model.specs.Order.{IsOrder};
 ghost use Rattle.lop_lolib.specs.Reading.{lolib_reading};
 ghost use Rattle.lop_preflib.specs.Reading.{preflib_reading};
 ghost use Rattle.lop_profile.specs.Reading.{profile_reading};
+ghost use Rattle.lop_report.specs.declared.decimal.TheConstants.{MAX_DECIMALS};
 ghost use Rattle.lop_tool.specs.Input.{matrix_instance, profile_instance, weighed_instance, input_reading, input_named, order_file_reading, order_named, IsOfSize};
 ghost use Rattle.lop_tool.specs.Steps.{FileCause};
 ghost use Rattle.lop_tool.specs.declared.stop.Stop.TheVariants.{Memory};
@@ -28,6 +29,8 @@ pub struct Instance {
     pub weights: Weights,
     /// The orders of voters that the weights are made of, where the file has such.
     pub profile: Option<Profile>,
+    /// k: the weights are in units of 10^-k.
+    pub decimals: u8,
 }
 
 /// The instance that the named file is accepted as, or why it is refused. One pass over the bytes, and for orders of
@@ -42,6 +45,7 @@ pub fn read_input<D: Desk>(
     ensures later { D.faults desk.old ≤ D.faults desk.new }
     ensures input { IfOk result (λ input. IfSome (D.told desk.old) (λ w. input_named format w.files file.now ≡ Some input)) }
     ensures of_size { IfOk result (λ input. IfOk input (λ x. IsOfSize x.weights.size x.profile)) }
+    ensures decimals { IfOk result (λ input. IfOk input (λ x. x.decimals ≤ MAX_DECIMALS)) }
     ensures stop { IfErr result (FileCause file.now (D.told desk.old) (D.faults desk.old) (D.faults desk.new)) }
 {
     match read_whole(alloc, desk, file, INPUT_LIMIT) {
@@ -60,6 +64,7 @@ fn instance_in(
     requires { length bytes.now ≤ 2 ^ 26 }
     ensures input { IfOk result (λ input. input_reading format bytes.now ≡ input) }
     ensures of_size { IfOk result (λ input. IfOk input (λ x. IsOfSize x.weights.size x.profile)) }
+    ensures decimals { IfOk result (λ input. IfOk input (λ x. x.decimals ≤ MAX_DECIMALS)) }
     ensures stop { IfErr result (λ stop. stop ≡ Memory) }
 {
     match format {
@@ -71,12 +76,14 @@ fn instance_in(
 fn matrix_in(alloc: Global, bytes: &[u8]) -> Result<Result<Instance, InputRefusal>, Stop>
     ensures input { IfOk result (λ input. matrix_instance (lolib_reading bytes.now) ≡ input) }
     ensures of_size { IfOk result (λ input. IfOk input (λ x. IsOfSize x.weights.size x.profile)) }
+    ensures decimals { IfOk result (λ input. IfOk input (λ x. x.decimals ≤ MAX_DECIMALS)) }
     ensures stop { IfErr result (λ stop. stop ≡ Memory) }
 {
     match read_lolib(alloc, bytes) {
         Ok(file) => Ok(Ok(Instance {
             weights: file.weights,
             profile: None,
+            decimals: file.decimals,
         })),
         Err(LolibRefusal::Memory) => Err(Stop::Memory),
         Err(refusal) => Ok(Err(InputRefusal::Lolib(refusal))),
@@ -86,6 +93,7 @@ fn matrix_in(alloc: Global, bytes: &[u8]) -> Result<Result<Instance, InputRefusa
 fn orders_in(alloc: Global, bytes: &[u8]) -> Result<Result<Instance, InputRefusal>, Stop>
     ensures input { IfOk result (λ input. profile_instance (preflib_reading bytes.now) ≡ input) }
     ensures of_size { IfOk result (λ input. IfOk input (λ x. IsOfSize x.weights.size x.profile)) }
+    ensures decimals { IfOk result (λ input. IfOk input (λ x. x.decimals ≤ MAX_DECIMALS)) }
     ensures stop { IfErr result (λ stop. stop ≡ Memory) }
 {
     match read_preflib(alloc, bytes) {
@@ -99,12 +107,14 @@ fn orders_in(alloc: Global, bytes: &[u8]) -> Result<Result<Instance, InputRefusa
 fn weighed(alloc: Global, profile: Profile) -> Result<Result<Instance, InputRefusal>, Stop>
     ensures input { IfOk result (λ input. weighed_instance profile (profile_reading profile) ≡ input) }
     ensures of_size { IfOk result (λ input. IfOk input (λ x. IsOfSize x.weights.size x.profile)) }
+    ensures decimals { IfOk result (λ input. IfOk input (λ x. x.decimals ≤ MAX_DECIMALS)) }
     ensures stop { IfErr result (λ stop. stop ≡ Memory) }
 {
     match pair_weights(alloc, &profile) {
         Ok(weights) => Ok(Ok(Instance {
             weights,
             profile: Some(profile),
+            decimals: 0,
         })),
         Err(ProfileFault::Memory) => Err(Stop::Memory),
         Err(fault) => Ok(Err(InputRefusal::Profile(fault))),

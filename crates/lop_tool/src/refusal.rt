@@ -73,6 +73,7 @@ fn put_lolib_refusal(refusal: LolibRefusal, room: &mut TextRoom)
         LolibRefusal::BadSize(place) => put(b"bad-size ", Buffer::new().format(place), room),
         LolibRefusal::SizeRange(n) => put(b"size-range ", Buffer::new().format(n), room),
         LolibRefusal::BadEntry(index) => put(b"bad-entry ", Buffer::new().format(index), room),
+        LolibRefusal::TooFine(index) => put(b"too-fine ", Buffer::new().format(index), room),
         LolibRefusal::TooWide(index) => put(b"too-wide ", Buffer::new().format(index), room),
         LolibRefusal::Short(count) => put(b"short ", Buffer::new().format(count), room),
         LolibRefusal::TooHeavy(sum) => put(b"too-heavy ", Buffer::new().format(sum), room),

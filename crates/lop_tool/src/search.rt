@@ -3,6 +3,7 @@ ghost use Rattle.std.specs.Prelude.{◌≡◌, ℕ, List, ◌≤◌, ◌≤ℤ�
 ghost use Rattle.lop_model.specs.Order.{IsOrder};
 ghost use Rattle.lop_model.specs.Matrix.{weight};
 ghost use Rattle.lop_climb.specs.StartOrder.{IsBeckerOrder};
+ghost use Rattle.lop_model.specs.declared.weights.TheConstants.{MAX_OBJECTS};
 ghost use Rattle.lop_tool.specs.Search.{found_of, IsClimbed, IsSearchOf};
 
 use lop_climb::{ClimbRoom, climb, start_order};
@@ -83,7 +84,7 @@ fn pool_of(alloc: Global, n: u16, workers: u32) -> Result<Pool<CutJudge>, AllocE
     requires some { 1 ≤ workers }
     requires at_most { workers ≤ 16 }
     requires positive { 1 ≤ n }
-    requires within_limit { n ≤ 512 }
+    requires within_limit { n ≤ MAX_OBJECTS }
     ensures { IfOk result (λ pool. pool.size ≡ n) }
 {
     let judges = judges_for(alloc, n, workers)?;
@@ -94,7 +95,7 @@ fn pool_of(alloc: Global, n: u16, workers: u32) -> Result<Pool<CutJudge>, AllocE
 // So many judges for n objects.
 fn judges_for(alloc: Global, n: u16, count: u32) -> Result<Vec<CutJudge>, AllocError>
     requires positive { 1 ≤ n }
-    requires within_limit { n ≤ 512 }
+    requires within_limit { n ≤ MAX_OBJECTS }
     ensures count { IfOk result (λ judges. vec_len judges ≡ count) }
     ensures same_n { IfOk result (λ judges. All (λ j. j ≡ n) judges.items) }
 {

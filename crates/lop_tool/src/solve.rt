@@ -3,6 +3,7 @@ ghost use Rattle.std.specs.Prelude.{◌≡◌, ◌≤◌, Some, IfOk, IfErr};
 ghost use Rattle.lop_desk.specs.Whole.{PrintsAll};
 ghost use Rattle.lop_words.specs.declared.command.Command.TheVariants.{Solve};
 ghost use Rattle.lop_core.specs.Machine.{state_bound};
+ghost use Rattle.lop_report.specs.declared.decimal.TheConstants.{MAX_DECIMALS};
 ghost use Rattle.lop_tool.specs.Status.{number, done_status};
 ghost use Rattle.lop_tool.specs.Told.{files_of, LeavesAll};
 ghost use Rattle.lop_tool.specs.Input.{IsOfSize};
@@ -61,7 +62,7 @@ impl Reply for Solution {
 
     fn print<D: Desk>(&self, desk: &mut D, room: &mut TextRoom) -> Result<(), DeskFailed> {
         print_answer(
-            &answer_of(&self.core),
+            &answer_of(&self.core, self.input.decimals),
             self.core.best_order(),
             &self.input.weights,
             self.input.profile.as_ref(),
@@ -71,16 +72,18 @@ impl Reply for Solution {
     }
 }
 
-/// The numbers of a search. O(the number of nodes).
-pub fn answer_of(core: &Core) -> Answer
+/// The numbers of a search, in units of 10^-k. O(the number of nodes).
+pub fn answer_of(core: &Core, decimals: u8) -> Answer
     ensures value { result.value ≡ core.now.state.best }
     ensures bound { result.bound ≡ state_bound core.now.state }
     ensures nodes { result.nodes ≡ core.now.state.evaluated }
+    ensures decimals { result.decimals ≡ decimals }
 {
     Answer {
         value: core.best(),
         bound: core.bound(),
         nodes: core.evaluated(),
+        decimals,
     }
 }
 
@@ -149,6 +152,7 @@ fn solve_instance<R: Threads + Sync, D: Desk, G: Gate>(
     requires positive { 1 ≤ nodes }
     requires within_limit { nodes ≤ 1000000 }
     requires of_size { IsOfSize input.weights.size input.profile }
+    requires decimals { input.decimals ≤ MAX_DECIMALS }
     ensures world { LeavesAll (D.told desk.old) (D.told desk.new) }
     ensures later { D.faults desk.old ≤ D.faults desk.new }
     ensures solves { IfOk result (SolvesInstance input nodes cert) }

@@ -81,6 +81,9 @@ const SECTORS_SOLVED: &[u8] =
 const ONE_OBJECT: &[u8] =
     b"objects 1\norder 1\nvalue 0\nbound 0\nstatus optimal\nnodes 0\ntotal 0\nlinearity none\n";
 
+/// Entries with decimals: weights are in units of 10^-2.
+const HALVES: &[u8] = b"2\n0 1.5\n.25 0\n";
+
 const TIE: &[u8] = b"3\n0 2 0\n0 0 2\n2 0 0\n";
 
 /// Weight 2 on the nine arcs of a 3-fence.
@@ -102,6 +105,34 @@ const SOLVED: &[Row] = &[
         SOLVE,
         0,
         b"objects 2\norder 2 1\nvalue -3\nbound -3\nstatus optimal\nnodes 0\ntotal -8\nlinearity none\n",
+    ),
+    (
+        HALVES,
+        b"",
+        SOLVE,
+        0,
+        b"objects 2\norder 1 2\nvalue 1.50\nbound 1.50\nstatus optimal\nnodes 0\ntotal 1.75\nlinearity 0.8571\n",
+    ),
+    (
+        b"2\n0 -5.0\n-3 0\n",
+        b"",
+        SOLVE,
+        0,
+        b"objects 2\norder 2 1\nvalue -3.0\nbound -3.0\nstatus optimal\nnodes 0\ntotal -8.0\nlinearity none\n",
+    ),
+    (
+        b"2\n0 1.1234567\n0 0\n",
+        b"",
+        SOLVE,
+        3,
+        b"refused too-fine 1\n",
+    ),
+    (
+        b"2\n0 1000000000000000000\n.5 0\n",
+        b"",
+        SOLVE,
+        3,
+        b"refused too-wide 1\n",
     ),
     (SECTORS, b"", SOLVE, 0, SECTORS_SOLVED),
     (TITLED, b"", SOLVE, 0, SECTORS_SOLVED),
@@ -214,6 +245,27 @@ const VOTED: &[Row] = &[
         b"",
         VOTES,
         3,
+        b"refused repeated line 4\n",
+    ),
+    (
+        b"# NUMBER ALTERNATIVES: 3\n1: 1,{2,3}\n",
+        b"",
+        VOTES,
+        0,
+        b"objects 3\norder 1 2 3\nvalue 2\nbound 2\nstatus optimal\nnodes 0\ntotal 2\nlinearity 1.0000\nvoters 1\ndisagreements 0\nrank 1 1\nrank 2 2\nrank 3 3\n",
+    ),
+    (
+        b"# NUMBER ALTERNATIVES: 3\n1: 1,{2,3\n",
+        b"",
+        VOTES,
+        3,
+        b"refused ties line 2\n",
+    ),
+    (
+        b"# NUMBER ALTERNATIVES: 3\n1: 1,2}\n",
+        b"",
+        VOTES,
+        3,
         b"refused ties line 2\n",
     ),
     (
@@ -320,6 +372,27 @@ const SECOND_FILES: &[Row] = &[
         b"accepted\nvalue 4\nbound 6\nstatus bounded\n",
     ),
     TIGHT_ROW,
+    (
+        HALVES,
+        b"2 1\n",
+        VALUE,
+        0,
+        b"objects 2\nvalue 0.25\ntotal 1.75\nlinearity 0.1428\n",
+    ),
+    (
+        HALVES,
+        b"lopcert 1\nobjects 2\norder 1 2\nvalue 150\nbound 200\ncuts 0\nleaf 1 0\nend\n",
+        CHECK,
+        6,
+        b"accepted\nvalue 1.50\nbound 2.00\nstatus bounded\n",
+    ),
+    (
+        HALVES,
+        b"lopcert 1\nobjects 2\norder 1 2\nvalue 151\nbound 200\ncuts 0\nleaf 1 0\nend\n",
+        CHECK,
+        1,
+        b"rejected line 4 value 151 150\n",
+    ),
     (
         TIE,
         b"lopcert 1\nobjects 3\norder 1 2 3\nvalue 4\nbound 5\ncuts 0\nleaf 1 0\nend\n",
@@ -431,6 +504,13 @@ const TRIPS: &[(&[u8], &str, &str, u8, &[u8])] = &[
         "check lolib a c",
         0,
         b"linearity 0.6250\naccepted\nvalue 10\nbound 10\nstatus optimal\n",
+    ),
+    (
+        HALVES,
+        "solve lolib a --cert c",
+        "check lolib a c",
+        0,
+        b"linearity 0.8571\naccepted\nvalue 1.50\nbound 1.50\nstatus optimal\n",
     ),
     (
         SQUARES,

@@ -1,10 +1,11 @@
 // The command `value`.
-ghost use Rattle.std.specs.Prelude.{◌≡◌, ◌≤◌, ◌^◌, unsigned_abs, true, Some, IfOk, IfErr};
+ghost use Rattle.std.specs.Prelude.{◌≡◌, ◌≤◌, true, Some, IfOk, IfErr};
 ghost use Rattle.lop_desk.specs.Whole.{OnlyOpens};
 ghost use Rattle.lop_words.specs.declared.command.Command.TheVariants.{Value};
+ghost use Rattle.lop_report.specs.declared.decimal.TheConstants.{MAX_DECIMALS};
 ghost use Rattle.lop_tool.specs.Status.{number, done_status};
 ghost use Rattle.lop_tool.specs.Told.{files_of};
-ghost use Rattle.lop_tool.specs.Value.{WeighsNamed, OrderStop, valuation_text};
+ghost use Rattle.lop_tool.specs.Value.{WeighsNamed, OrderStop, valuation_text, IsPrintableValue};
 ghost use Rattle.lop_tool.specs.Reply.{IsRight};
 ghost use Rattle.lop_tool.specs.Ended.{Ended, StopCause, NoFile};
 
@@ -27,9 +28,9 @@ pub struct Valuation {
 }
 
 impl Reply for Valuation {
-    ghost use Rattle.std.specs.Prelude.{⊤, ◌≤◌, ◌^◌, unsigned_abs, true};
+    ghost use Rattle.std.specs.Prelude.{⊤, true};
     ghost use Rattle.lop_tool.specs.Status.{done_status};
-    ghost use Rattle.lop_tool.specs.Value.{valuation_text};
+    ghost use Rattle.lop_tool.specs.Value.{valuation_text, IsPrintableValue};
     ghost use Rattle.lop_tool.specs.Ended.{NoFile};
 
     ghost text = { valuation_text };
@@ -40,7 +41,7 @@ impl Reply for Valuation {
 
     ghost begun = { λ _ _. ⊤ };
 
-    ghost printable = { λ x. unsigned_abs x.value ≤ 2 ^ 63 };
+    ghost printable = { IsPrintableValue };
 
     fn status(&self) -> Status {
         Status::Done
@@ -53,6 +54,7 @@ impl Reply for Valuation {
     fn print<D: Desk>(&self, desk: &mut D, room: &mut TextRoom) -> Result<(), DeskFailed> {
         print_value(
             self.value,
+            self.input.decimals,
             &self.input.weights,
             self.input.profile.as_ref(),
             desk,
@@ -89,7 +91,7 @@ fn weigh_file<D: Desk>(
     ensures world { OnlyOpens (D.told desk.old) (D.told desk.new) }
     ensures later { D.faults desk.old ≤ D.faults desk.new }
     ensures right { IfOk result (λ x. IsRight (files_of (D.told desk.old)) (Some (Value format file.now order_file.now)) (done_status true) (valuation_text x) NoFile) }
-    ensures printable { IfOk result (λ x. unsigned_abs x.value ≤ 2 ^ 63) }
+    ensures printable { IfOk result IsPrintableValue }
     ensures stop { IfErr result (StopCause (Value format file.now order_file.now) (D.told desk.old) (D.faults desk.old) (D.faults desk.new)) }
 {
     match read_input(alloc, format, file, desk) {
@@ -106,10 +108,11 @@ fn weigh_order<D: Desk>(
     order_file: &str,
     desk: &mut D,
 ) -> Result<Valuation, Stop>
+    requires { input.decimals ≤ MAX_DECIMALS }
     ensures world { OnlyOpens (D.told desk.old) (D.told desk.new) }
     ensures later { D.faults desk.old ≤ D.faults desk.new }
     ensures weighs { IfOk result (WeighsNamed input order_file.now (D.told desk.old)) }
-    ensures printable { IfOk result (λ x. unsigned_abs x.value ≤ 2 ^ 63) }
+    ensures printable { IfOk result IsPrintableValue }
     ensures stop { IfErr result (OrderStop input.weights.size order_file.now (D.told desk.old) (D.faults desk.old) (D.faults desk.new)) }
 {
     match read_order_file(alloc, order_file, input.weights.n(), desk) {

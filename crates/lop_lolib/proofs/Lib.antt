@@ -1,3 +1,4 @@
 pub mod WordsLemmas
+pub mod NumberLemmas
 pub mod EntriesLemmas
 pub mod ObjectsLemmas

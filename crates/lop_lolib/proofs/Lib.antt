@@ -1,4 +1,5 @@
 pub mod WordsLemmas
 pub mod NumberLemmas
 pub mod EntriesLemmas
+pub mod UnitsLemmas
 pub mod ObjectsLemmas

@@ -7,9 +7,9 @@ use Rattle.lop_lolib.specs.Units.{most_decimals, units_of}
 
 -- the numbers of words, and the greatest number of decimals among them
 pub record AreNumbers (words : List (List ℕ)) (digits : List ℤ) (decimals : List ℕ) (most : ℕ) : Type 0 where
-  pub digits : digits ≡ map digits_of words
-  pub decimals : decimals ≡ map decimal_count words
-  pub most : most ≡ most_decimals words
+  pub values : digits ≡ map digits_of words
+  pub counts : decimals ≡ map decimal_count words
+  pub greatest : most ≡ most_decimals words
   pub fine : most ≤ MAX_DECIMALS
   pub coarser : All (λ d. d ≤ most) decimals
   pub narrow : All (λ v. nat_abs v ≤ MAX_NUMBER) digits

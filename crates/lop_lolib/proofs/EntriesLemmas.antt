@@ -113,9 +113,9 @@ IsRefusal-from reading Memory e = tt
 -- a word that is an entry
 pub entry-parts : (word : List ℕ) → is_entry_word word ≡ true → (decimal_count word ≤ MAX_DECIMALS) × (nat_abs (digits_of word) ≤ MAX_NUMBER)
 entry-parts word is =
-    let decimal = and_parts (is_decimal_word word) (nat_le (decimal_count word) MAX_DECIMALS && nat_le (nat_abs (digits_of word)) MAX_NUMBER) is in
-    let both = and_parts (nat_le (decimal_count word) MAX_DECIMALS) (nat_le (nat_abs (digits_of word)) MAX_NUMBER) decimal.1 in
-    (leb-true _ _ both.0, leb-true _ _ both.1)
+    let both = and_parts (is_decimal_word word && nat_le (decimal_count word) MAX_DECIMALS) (nat_le (nat_abs (digits_of word)) MAX_NUMBER) is in
+    let fine = and_parts (is_decimal_word word) (nat_le (decimal_count word) MAX_DECIMALS) both.0 in
+    (leb-true (decimal_count word) MAX_DECIMALS fine.1, leb-true (nat_abs (digits_of word)) MAX_NUMBER both.1)
 
 module _ (words left : List (List ℕ)) (digits : List ℤ) (decimals : List ℕ) (most : ℕ) (so_far : AreFirstEntries words left digits decimals most) where
   pub first_entries-left : length left ≤ length words
@@ -131,7 +131,7 @@ module _ (words left : List (List ℕ)) (digits : List ℤ) (decimals : List ℕ
       ap (λ (t : Bool). rows_with n words t (nat_lt (length words) (n * n))) good ∙ ap (λ (t : Bool). rows_with n words false t) few ∙ ap (λ (k : ℕ). Err (Short k)) (sym all)
 
   module _ (n : ℕ) (full : length digits ≡ n * n) where
-    front : List (List ℕ)
+    abbrev pub front : List (List ℕ)
     front = take (n * n) words
 
     many : length front ≡ n * n

@@ -1,7 +1,7 @@
 -- The text of weights is read back.
-use Rattle.std.proofs.Common.{◌≡◌, ℕ, zero, suc, ◌+◌, ◌*◌, ◌^◌, ◌<◌, ◌≤◌, ◌≤ℤ◌, Bool, true, false, not, ◌&&◌, ◌||◌, ◌==◌, cond, nat_lt, nat_le, List, [], ◌∷◌, ◌++◌, length, take, drop, map, get_or, ℤ, pos, negsuc, nat_abs, unsigned_abs, int_lt, ◌≢◌, ◌⊎◌, Ok, Err, codes, refl, sym, ◌∙◌, ap, subst, inl, inr, append_assoc, arith}
+use Rattle.std.proofs.Common.{◌≡◌, ℕ, zero, suc, ◌+◌, ◌*◌, ◌^◌, ◌<◌, ◌≤◌, ◌≤ℤ◌, max, Bool, true, false, not, ◌&&◌, ◌||◌, ◌==◌, cond, nat_lt, nat_le, List, [], ◌∷◌, ◌++◌, length, take, drop, map, get_or, ℤ, pos, negsuc, nat_abs, unsigned_abs, int_lt, ◌≢◌, ◌⊎◌, Ok, Err, codes, refl, sym, ◌∙◌, ap, subst, inl, inr, append_assoc, arith}
 use Rattle.std.specs.Fmt.{signed_decimal}
-use Rattle.std.specs.List.{list_all, list_any, flat_map, join_with_byte, position_or_len, prefix_len}
+use Rattle.std.specs.List.{fold, list_all, list_any, flat_map, join_with_byte, position_or_len, prefix_len}
 use Rattle.std.proofs.Math.Seq.{take-append_seam}
 use Rattle.std.proofs.lemmas.Bool.{and_parts, and_from, ne_eqb, le-leb, leb-true, cases_lt}
 use Rattle.std.proofs.lemmas.Bool.Decides.{nat_tests}
@@ -12,12 +12,16 @@ use Rattle.std.proofs.lemmas.List.Sums.{list_all-from_AllPass}
 use Rattle.lop_desk.specs.Number.{whole_value, is_whole_word}
 use Rattle.lop_model.specs.Matrix.{Matrix, IsWeights, matrix_of, entry, pair_absolute, absolute_total}
 use Rattle.lop_model.proofs.SumLemmas.{pair_sum-le, pair_sum-one}
-use Rattle.lop_lolib.specs.Words.{is_separator, words_of, is_bounded_whole}
+use Rattle.lop_lolib.specs.Words.{is_separator, words_of}
 use Rattle.lop_lolib.specs.Title.{first_line, from_first_word, to_line_end, is_line_end, is_title, to_last_word}
-use Rattle.lop_lolib.specs.Reading.{lolib_reading, titled, body_reading, words_reading, size_reading, rows_reading}
+use Rattle.lop_lolib.specs.Number.{is_decimal_word, decimal_count, digits_of}
+use Rattle.lop_lolib.specs.Units.{most_decimals}
+use Rattle.lop_lolib.specs.Reading.{lolib_reading, titled, body_reading, words_reading, size_reading, rows_reading, is_entry_word}
 use Rattle.lop_lolib.specs.declared.refusal.LolibRefusal.TheVariants.{SizeRange, TooHeavy, BadSize}
 use Rattle.lop_lolib.proofs.WordsLemmas.{words_of-separator, words_of-word_alone}
-use Rattle.lop_lolib.proofs.EntriesLemmas.{AreFirstNumbers, rows_reading-all}
+use Rattle.lop_lolib.proofs.EntriesLemmas.{AreFirstEntries, entry-parts, first_entries-numbers, rows_reading-all}
+use Rattle.lop_lolib.proofs.UnitsLemmas.{units-whole, units_reading-narrow}
+use Rattle.lop_lolib.proofs.WholeLemmas.{whole-number as whole_is_number, whole-entry}
 use Rattle.lop_gen.specs.Text.{row_line, lolib_text, plain_file, HasNarrowDiagonal}
 use Rattle.lop_gen.proofs.RowLemmas.{length-rows, rows-matrix_of}
 use Rattle.lop_gen.proofs.NumberLemmas.{is_free, number_free, number_some, whole_value-number, whole-number, number_word, position-alone, words_of-front}
@@ -65,27 +69,40 @@ flat_narrow (row ∷ rows) narrow =
     list_all-append is_narrow row (flat rows) ∙ and_from _ _ parts.0 (flat_narrow rows parts.1)
 
 -- the numbers of the words
-values_back : (zs : List ℤ) → are_narrow zs ≡ true → map whole_value (map signed_decimal zs) ≡ zs
+values_back : (zs : List ℤ) → are_narrow zs ≡ true → map digits_of (map signed_decimal zs) ≡ zs
 values_back [] narrow = refl
 values_back (z ∷ zs) narrow =
     let parts = and_parts (is_narrow z) (are_narrow zs) narrow in
-    let first = whole_value-number z (narrow-bound z parts.0) in
+    let small = narrow-bound z parts.0 in
+    let first : digits_of (signed_decimal z) ≡ z = (whole_is_number (signed_decimal z) (whole-number z small)).2 ∙ whole_value-number z small in
     let others = values_back zs parts.1 in
     cc (first, others)
 
-numbers_back : (zs : List ℤ) → are_narrow zs ≡ true → (k : ℕ) → k < length zs → is_bounded_whole (get_or (map signed_decimal zs) k []) ≡ true
-numbers_back [] narrow k below = absurd (omega arith)
-numbers_back (z ∷ zs) narrow zero below = number_word z (narrow-bound z (and_parts (is_narrow z) (are_narrow zs) narrow).0)
-numbers_back (z ∷ zs) narrow (suc k) below = numbers_back zs (and_parts (is_narrow z) (are_narrow zs) narrow).1 k (omega arith)
+-- which have no decimals
+counts_back : (zs : List ℤ) → are_narrow zs ≡ true → most_decimals (map signed_decimal zs) ≡ 0
+counts_back [] narrow = refl
+counts_back (z ∷ zs) narrow =
+    let parts = and_parts (is_narrow z) (are_narrow zs) narrow in
+    let none : decimal_count (signed_decimal z) ≡ 0 = (whole_is_number (signed_decimal z) (whole-number z (narrow-bound z parts.0))).1 in
+    let first : max 0 (decimal_count (signed_decimal z)) ≡ 0 = omega (arith, none) in
+    ap (λ (k : ℕ). fold max k (map decimal_count (map signed_decimal zs))) first ∙ counts_back zs parts.1
 
-all_read : (zs : List ℤ) → are_narrow zs ≡ true → AreFirstNumbers (map signed_decimal zs) [] zs
+entries_back : (zs : List ℤ) → are_narrow zs ≡ true → (k : ℕ) → k < length zs → is_entry_word (get_or (map signed_decimal zs) k []) ≡ true
+entries_back [] narrow k below = absurd (omega arith)
+entries_back (z ∷ zs) narrow zero below = whole-entry (signed_decimal z) (number_word z (narrow-bound z (and_parts (is_narrow z) (are_narrow zs) narrow).0))
+entries_back (z ∷ zs) narrow (suc k) below = entries_back zs (and_parts (is_narrow z) (are_narrow zs) narrow).1 k (omega arith)
+
+all_read : (zs : List ℤ) → are_narrow zs ≡ true → AreFirstEntries (map signed_decimal zs) [] zs (map decimal_count (map signed_decimal zs)) 0
 all_read zs narrow =
     let words = map signed_decimal zs in
     let many : length words ≡ length zs = length-map zs signed_decimal in
+    let front : take (length zs) words ≡ words = take_all (length zs) words (omega (arith, many)) in
     record {
       present = omega (arith, many);
-      numbers = numbers_back zs narrow;
-      values = sym (ap (map whole_value) (take_all (length zs) words (omega (arith, many))) ∙ values_back zs narrow);
+      entries = entries_back zs narrow;
+      values = sym (ap (map digits_of) front ∙ values_back zs narrow);
+      counts = sym (ap (map decimal_count) front);
+      greatest = sym (ap most_decimals front ∙ counts_back zs narrow);
       left = sym (drop_all (length zs) words (omega (arith, many)));
     }
 
@@ -178,8 +195,8 @@ module _ (word rest : List ℕ) (some : 0 < length word) (free : is_free word �
   no_title : is_title (first_line text) ≡ false
   no_title =
       ap is_title first_line_is
-      ∙ ap (λ (ws : List (List ℕ)). list_any (λ v. not (is_whole_word v)) ws) (words_of-word_alone word some (position-alone word free))
-      ∙ ap (λ (t : Bool). not t || false) whole
+      ∙ ap (λ (ws : List (List ℕ)). list_any (λ v. not (is_decimal_word v)) ws) (words_of-word_alone word some (position-alone word free))
+      ∙ ap (λ (t : Bool). not t || false) (whole_is_number word whole).0
 
   untitled : lolib_reading text ≡ titled [] (body_reading 0 text)
   untitled =
@@ -200,7 +217,13 @@ rows_back C w narrow =
     let full : length zs ≡ n * n = length-rows (λ r. r) n C.rows each ∙ ap (λ (k : ℕ). k * n) w.rows in
     let cut : (matrix_of n zs).rows ≡ C.rows = rows-matrix_of (λ r. r) n C.rows w.rows each ∙ map-id C.rows in
     let same : matrix_of n zs ≡ C = ap (λ (r : List (List ℤ)). let M : Matrix = record { size = n; rows = r } in M) cut in
-    rows_reading-all (map signed_decimal zs) [] zs (all_read zs (flat_narrow C.rows narrow)) n full
+    let words = map signed_decimal zs in
+    let counts = map decimal_count words in
+    let small = flat_narrow C.rows narrow in
+    let read = all_read zs small in
+    let are = first_entries-numbers words [] zs counts 0 read n full in
+    rows_reading-all words [] zs counts 0 read n full
+    ∙ units_reading-narrow n 0 0 (take (n * n) words) zs counts are zs refl (units-whole zs counts (λ i below. are.narrow i (pos 0) below))
     ∙ ap (λ (M : Matrix). cond (int_lt (pos (10 ^ 18)) (absolute_total M)) (Err (TooHeavy (absolute_total M))) (Ok (plain_file M))) same
     ∙ ap (λ (t : Bool). cond t (Err (TooHeavy (absolute_total C))) (Ok (plain_file C))) (int_lt-not (pos (10 ^ 18)) (absolute_total C) w.bounded_sum)
 

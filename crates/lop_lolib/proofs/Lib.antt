@@ -1,4 +1,6 @@
 pub mod WordsLemmas
 pub mod NumberLemmas
+pub mod WholeLemmas
 pub mod EntriesLemmas
+pub mod UnitsLemmas
 pub mod ObjectsLemmas

@@ -1,7 +1,9 @@
 // Texts that are read, and texts that are refused.
-use lop_lolib::LolibRefusal::{BadEntry, BadSize, Empty, Short, SizeRange, TooHeavy, TooWide};
+use lop_lolib::LolibRefusal::{
+    BadEntry, BadSize, Empty, Short, SizeRange, TooFine, TooHeavy, TooWide,
+};
 use lop_lolib::OrderRefusal::{BadWord, Length, OutOfRange, Repeated};
-use lop_lolib::{LolibRefusal, OrderRefusal, read_lolib, read_order};
+use lop_lolib::{LolibRefusal, NumberWord, OrderRefusal, number_word, read_lolib, read_order};
 use lop_model::Weights;
 use std::alloc::{AllocError, Global};
 use std::process::Abort;
@@ -25,12 +27,14 @@ fn reads_whole(
     entries: &[i64],
     title: &str,
     tail_words: u64,
+    decimals: u8,
 ) -> Result<(), Fail> {
     let file = read_lolib(alloc, text.as_bytes())?;
     let found = entries_of(alloc, &file.weights)?;
     assert_eq!(rt; found.as_slice(), entries, "at {text:?}");
     assert_eq!(rt; file.title.bytes(), title.as_bytes(), "at {text:?}");
     assert_eq!(rt; file.tail_words, tail_words, "at {text:?}");
+    assert_eq!(rt; file.decimals, decimals, "at {text:?}");
     Ok(())
 }
 
@@ -65,7 +69,7 @@ const PLAIN: &[(&str, &[i64])] = &[
 #[test]
 fn texts_read(rt: HostRuntime) -> Result<(), Fail> {
     for (text, entries) in PLAIN {
-        reads_whole(&rt, rt.alloc(), text, entries, "", 0)?;
+        reads_whole(&rt, rt.alloc(), text, entries, "", 0, 0)?;
     }
     Ok(())
 }
@@ -81,17 +85,69 @@ const TITLED: &[(&str, &[i64], &str, u64)] = &[
     ("3\n0 5 1\n2 0 4\n3 1 0\nx y\n", SECTORS, "", 2),
     ("1\n0 x", &[0], "", 1),
     ("\n \t x  9\t \r\n1 0 2\n3 \x0c", &[0], "x  9", 3),
-    ("1.5\n1\n0", &[0], "1.5", 0),
+    ("1.5.\n1\n0", &[0], "1.5.", 0),
     ("1 -\n1\n0", &[0], "1 -", 0),
+    ("1e5\n1\n0", &[0], "1e5", 0),
+    ("+. .5\n1\n0", &[0], "+. .5", 0),
     ("\u{e9}\x00\n1\n0", &[0], "\u{e9}\x00", 0),
 ];
 
 #[test]
 fn titles_and_tails_read(rt: HostRuntime) -> Result<(), Fail> {
     for (text, entries, title, tail_words) in TITLED {
-        reads_whole(&rt, rt.alloc(), text, entries, title, *tail_words)?;
+        reads_whole(&rt, rt.alloc(), text, entries, title, *tail_words, 0)?;
     }
     Ok(())
+}
+
+/// Texts with decimals, their entries in units of 10^-k, and k.
+const DECIMALS: &[(&str, &[i64], u8)] = &[
+    ("2\n0 1.5\n.25 0\n", &[0, 150, 25, 0], 2),
+    ("2\n0 -5.0\n-3 0\n", &[0, -50, -30, 0], 1),
+    ("2\n0 5.\n+.5 -0\n", &[0, 50, 5, 0], 1),
+    ("2\n0 -.5\n-0.25 0\n", &[0, -50, -25, 0], 2),
+    ("2\n0.000000 7\n3 0\n", &[0, 7_000_000, 3_000_000, 0], 6),
+    ("2 0 1.10 2 0", &[0, 110, 200, 0], 2),
+    ("2 5. 1. 2. 0.", &[5, 1, 2, 0], 0),
+    ("1\n1000000000000000000.", &[WIDE], 0),
+    ("1\n-1000000000000.000000", &[-WIDE], 6),
+    ("1\n0000000000000000000000001.5", &[15], 1),
+];
+
+#[test]
+fn decimals_read(rt: HostRuntime) -> Result<(), Fail> {
+    for (text, entries, decimals) in DECIMALS {
+        reads_whole(&rt, rt.alloc(), text, entries, "", 0, *decimals)?;
+    }
+    reads_whole(&rt, rt.alloc(), "1 .5 .25", &[5], "", 1, 1)
+}
+
+const WORDS: &[(&str, NumberWord)] = &[
+    (".", NumberWord::Not),
+    ("+.", NumberWord::Not),
+    ("-", NumberWord::Not),
+    (".+5", NumberWord::Not),
+    ("1.2.3", NumberWord::Not),
+    ("1e5", NumberWord::Not),
+    ("1.1234567x", NumberWord::Not),
+    ("5.", NumberWord::Good { digits: 5, decimals: 0 }),
+    (".5", NumberWord::Good { digits: 5, decimals: 1 }),
+    ("-.5", NumberWord::Good { digits: -5, decimals: 1 }),
+    ("-0.50", NumberWord::Good { digits: -50, decimals: 2 }),
+    ("0.0000001", NumberWord::TooFine),
+    ("1000000000000000001.0000000", NumberWord::TooFine),
+    ("1000000000000000001", NumberWord::TooWide),
+    ("-1000000000000000000.1", NumberWord::TooWide),
+    ("99999999999999999999999999.5", NumberWord::TooWide),
+    ("1000000000000000000", NumberWord::Good { digits: WIDE, decimals: 0 }),
+    ("-1000000000000.000000", NumberWord::Good { digits: -WIDE, decimals: 6 }),
+];
+
+#[test]
+fn words_are_numbers(rt: HostRuntime) {
+    for (word, expected) in WORDS {
+        assert_eq!(&rt; number_word(word.as_bytes()), *expected, "at {word:?}");
+    }
 }
 
 const REFUSED: &[(&str, LolibRefusal)] = &[
@@ -110,6 +166,22 @@ const REFUSED: &[(&str, LolibRefusal)] = &[
     (
         "1\n-100000000000000000000000000000000000000000\n",
         TooWide(0),
+    ),
+    ("2\n0 1.1234567\n0 0\n", TooFine(1)),
+    ("2\n0 1000000000000000001.0000000\n0 x\n", TooFine(1)),
+    ("2\n0 1000000000000000000\n.5 0\n", TooWide(1)),
+    ("2\n.5 1\n0 1000000000000000000\n", TooWide(3)),
+    ("2\n0 1000000000000000000\n.5\n", Short(3)),
+    ("2\n0 1000000000000000000\n.5 1.2.3\n", BadEntry(3)),
+    ("1.0\n0\n", BadSize(0)),
+    ("1.5\n1\n0", BadSize(0)),
+    (
+        "2\n0 .5\n1000000000000000000 0\n",
+        TooWide(2),
+    ),
+    (
+        "2\n0 50000000000000000.1\n50000000000000000 0",
+        TooHeavy(1_000_000_000_000_000_001),
     ),
     ("2\n0 1\n1\n", Short(3)),
     ("512", Short(0)),

@@ -5,7 +5,6 @@ use Rattle.std.specs.Int.{int_max}
 use Rattle.std.proofs.lemmas.Int.{ints, clamps}
 use Rattle.std.proofs.lemmas.Bool.Decides.{nat_tests}
 use Rattle.lop_model.specs.declared.pair.Pair.{Pair}
-use Rattle.lop_model.specs.Sums.{pair_sum}
 use Rattle.lop_model.specs.Order.{IsOrder, place_of, stands_before}
 use Rattle.lop_model.specs.Matrix.{Matrix, entry, pair_absolute, absolute_total, weight, IsUpperBound}
 use Rattle.lop_model.specs.Fixings.{has_pair, IsLinearExtension}

@@ -1,11 +1,9 @@
 -- There is a function that gives each list of pairs its closure.
-use Rattle.std.proofs.Common.{◌≡◌, ℕ, suc, ◌+◌, ◌<◌, Bool, true, false, eqb, ◌&&◌, ◌||◌, List, [], ◌∷◌, ◌++◌, length, get_or, append_assoc, append-nil, refl, sym, ◌∙◌, ap, subst, ◌↔◌, arith}
+use Rattle.std.proofs.Common.{◌≡◌, ℕ, suc, ◌+◌, ◌<◌, Bool, true, false, eqb, ◌&&◌, ◌||◌, List, [], ◌∷◌, ◌++◌, length, get_or, append_assoc, append-nil, refl, sym, ◌∙◌, subst, ◌↔◌, arith}
 use Rattle.std.specs.Prelude.{IsTrue, fold}
 use Rattle.std.proofs.lemmas.Bool.{eqb-true}
-use Rattle.std.proofs.lemmas.List.Sums.{fold_push}
 use Rattle.lop_model.specs.declared.pair.Pair.{Pair}
 use Rattle.lop_model.specs.Fixings.{has_pair, LeadsTo, one_pair, pair_then, IsClosure, IsBranchingPath}
-use Rattle.lop_model.specs.Related.{pairs_of}
 use Rattle.lop_model.specs.Closing.{AreClosures, linked, leads, above_all, closed}
 use Rattle.lop_model.proofs.ClosureLemmas.{closed_more, no_chain}
 use Rattle.lop_model.proofs.RelatedPairs.{has_pair-inside, related-has_pair}

@@ -1,4 +1,6 @@
 pub mod SumLemmas
+pub mod RowSums
+pub mod CountLemmas
 pub mod OrderLemmas
 pub mod MatrixLemmas
 pub mod BoundLemmas

@@ -55,12 +55,12 @@ fn entry_at(entries: &[i64], n: usize, a: usize, b: usize) -> i64
 fn margin_at(entries: &[i64], n: usize, a: usize, b: usize) -> i64
     requires square { length entries.now ≡ n * n }
     requires within_limit { n ≤ MAX_OBJECTS }
-    requires bounded_sum { absolute_total (matrix_of n entries.now) ≤ℤ pos (10 ^ 18) }
+    requires bounded_sum { absolute_total (matrix_of n entries.now) ≤ℤ MAX_ABSOLUTE_SUM }
     requires row { a < n }
     requires column { b < n }
     ensures value { result ≡ margin (matrix_of n entries.now) a b }
-    ensures low { neg_ℤ (pos (10 ^ 18)) ≤ℤ result }
-    ensures high { result ≤ℤ pos (10 ^ 18) }
+    ensures low { neg_ℤ MAX_ABSOLUTE_SUM ≤ℤ result }
+    ensures high { result ≤ℤ MAX_ABSOLUTE_SUM }
 {
     entry_at(entries, n, a, b) - entry_at(entries, n, b, a)
 }
@@ -136,8 +136,8 @@ impl Weights {
         requires first { a < self.now.size }
         requires second { b < self.now.size }
         ensures value { result ≡ margin self.now a b }
-        ensures low { neg_ℤ (pos (10 ^ 18)) ≤ℤ result }
-        ensures high { result ≤ℤ pos (10 ^ 18) }
+        ensures low { neg_ℤ MAX_ABSOLUTE_SUM ≤ℤ result }
+        ensures high { result ≤ℤ MAX_ABSOLUTE_SUM }
     {
         margin_at(&self.entries, self.size as usize, a as usize, b as usize)
     }

@@ -1,11 +1,10 @@
 -- Sums over pairs, row by row, and between what their parts stay.
-use Rattle.std.proofs.Common.{◌≡◌, ℕ, zero, suc, ◌+◌, ◌^◌, ◌<◌, ◌≤◌, true, false, cond, ltb, refl, sym, ◌∙◌, subst, inl, inr, arith, ℤ, pos, neg_ℤ, ◌+ℤ◌, ◌≤ℤ◌}
+use Rattle.std.proofs.Common.{◌≡◌, ℕ, zero, suc, ◌+◌, ◌<◌, ◌≤◌, true, false, ltb, refl, sym, ◌∙◌, subst, inl, inr, arith, ℤ, pos, neg_ℤ, ◌+ℤ◌, ◌≤ℤ◌}
 use Rattle.std.proofs.lemmas.Int.{ints}
 use Rattle.std.proofs.lemmas.Bool.{cases_lt}
 use Rattle.std.proofs.lemmas.Bool.Decides.{nat_tests}
-use Rattle.lop_model.specs.Sums.{sum_below, pair_sum}
+use Rattle.lop_model.specs.Sums.{sum_below, pair_sum, above}
 use Rattle.lop_model.proofs.SumLemmas.{sum_below-none, sum_below-swap, sum_below-square, sum_below-le, sum_below-negate, pair_sum-same}
-use Rattle.lop_leaf.specs.Table.{above}
 
 pub above_is : (f : ℕ → ℕ → ℤ) (a b : ℕ) → a < b → above f a b ≡ f a b
 above_is f a b l = let test : ltb a b ≡ true = grind (arith, nat_tests) in rw test refl

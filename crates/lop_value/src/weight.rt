@@ -1,4 +1,5 @@
-ghost use Rattle.std.specs.Prelude.{◌≡◌, ◌^◌, length, pos, neg_ℤ, ◌≤ℤ◌};
+ghost use Rattle.std.specs.Prelude.{◌≡◌, length, neg_ℤ, ◌≤ℤ◌};
+ghost use Rattle.lop_model.specs.declared.weights.TheConstants.{MAX_ABSOLUTE_SUM};
 ghost use Rattle.lop_model.specs.Matrix.{weight};
 
 use lop_model::{Order, Weights};
@@ -8,8 +9,8 @@ use lop_model::{Order, Weights};
 pub fn value(weights: &Weights, order: &Order) -> i128
     requires { length order.now ≡ weights.now.size }
     ensures value { result ≡ weight weights.now order.now }
-    ensures low { neg_ℤ (pos (10 ^ 18)) ≤ℤ result }
-    ensures high { result ≤ℤ pos (10 ^ 18) }
+    ensures low { neg_ℤ MAX_ABSOLUTE_SUM ≤ℤ result }
+    ensures high { result ≤ℤ MAX_ABSOLUTE_SUM }
 {
     let n = order.n();
     prove_eq!(n, weights.n());

@@ -1,12 +1,12 @@
 use Rattle.std.proofs.Common.{arith, to_z, subst, length, ◌≡◌, ap, ◌∙◌}
 use Rattle.std.specs.Int.{w128}
 use Rattle.std.proofs.lemmas.Int.{ints}
-use Rattle.lop_model.specs.Sums.{sum_below, pair_sum}
+use Rattle.lop_model.specs.Sums.{sum_below, above, pair_sum}
 use Rattle.lop_model.specs.Order.{IsOrder}
 use Rattle.lop_model.specs.Matrix.{placed_entry, weight}
 use Rattle.lop_model.proofs.SumLemmas.{sum_below_more}
 use Rattle.lop_model.proofs.MatrixLemmas.{weight_within}
-use Rattle.lop_value.proofs.RowSums.{above, above_is, row_start, pair_sum-rows}
+use Rattle.lop_model.proofs.RowSums.{above_is, row_start, pair_sum-rows}
 use Rattle.lop_value.proofs.weight.value.Goals as goal
 
 pub loop-q-init : goal.loop-q-init

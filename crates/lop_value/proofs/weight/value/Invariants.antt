@@ -1,7 +1,6 @@
 use Rattle.std.proofs.Common.{◌≡◌, ◌*◌, ◌+◌, ◌^◌, pos, ◌+ℤ◌, ◌≤ℤ◌, neg_ℤ}
 use Rattle.lop_model.specs.Matrix.{placed_entry}
-use Rattle.lop_model.specs.Sums.{sum_below}
-use Rattle.lop_value.proofs.RowSums.{above}
+use Rattle.lop_model.specs.Sums.{sum_below, above}
 use Rattle.lop_value.proofs.weight.value.Given as goal
 
 abbrev pub invariant-loop-p : goal.invariant-loop-p

@@ -1,3 +1,4 @@
 pub mod TableLemmas
 pub mod LinkLemmas
 pub mod TableFixings
+pub mod CountedBits

@@ -1,8 +1,9 @@
 ghost use Rattle.std.specs.Prelude.{◌≡◌, ◌≢◌, ◌<◌, ◌++◌, [], ◌∷◌, IfOk, IfErr, OnOk, IfSome, IfNone};
 ghost use Rattle.std.specs.List.{All};
+ghost use Rattle.lop_model.specs.Sums.{count_below};
 ghost use Rattle.lop_model.specs.Fixings.{has_pair, IsClosure, IsUndecided, AreAllDecided, IsBranchingPath, HaveSameExtensions};
 
-use crate::table::{at_table, empty_table, link};
+use crate::table::{at_table, count_row, empty_table, link};
 use lop_model::Pair;
 use std::alloc::{AllocError, Global};
 use std::marker::Model;
@@ -101,6 +102,15 @@ impl Fixings {
         } else {
             Decision::Undecided
         }
+    }
+
+    /// How many objects `a` is fixed before. O(n / 64).
+    pub fn count_after(&self, a: u16) -> u16
+        requires { a < self.now.size }
+        ensures value { result ≡ count_below self.now.size (has_pair self.now.pairs a) }
+        ensures partial_order { IsPartialOrder self.now }
+    {
+        count_row(&self.words, self.size as usize, a as usize)
     }
 
     /// Fixes one more pair, and all that follows. O(n² / 64).

@@ -1,5 +1,7 @@
 // Tables of bits: n rows of n bits, each row in whole words of 64 bits, one row after another.
-ghost use Rattle.std.specs.Prelude.{◌≡◌, ◌≢◌, ◌+◌, ◌*◌, ◌/◌, ◌<◌, ◌==◌, ◌||◌, length, false, replicate, IfOk};
+ghost use Rattle.std.specs.Prelude.{◌≡◌, ◌≢◌, ◌+◌, ◌*◌, ◌/◌, ◌%◌, ◌<◌, ◌≤◌, ◌==◌, ◌||◌, length, false, replicate, IfOk};
+ghost use Rattle.std.specs.Int.{bit_at};
+ghost use Rattle.lop_model.specs.Sums.{count_below};
 ghost use Rattle.lop_fix.specs.Table.{at, row_words, SetsBit, JoinsRow, Links};
 
 use crate::lanes::or_into;
@@ -42,6 +44,56 @@ pub fn at_table(words: &[u64], n: usize, a: usize, b: usize) -> bool
     ensures { result ≡ at words.now n a b }
 {
     (words[word_place(n, a, b)] >> (b % 64)) & 1 == 1
+}
+
+/// How many of a word's first bits are set. O(1).
+fn first_ones(word: u64, bits: usize) -> u32
+    requires { bits < 64 }
+    ensures value { result ≡ count_below bits (λ i. bit_at word i == 1) }
+    ensures few { result ≤ 64 }
+{
+    (word & ((1 << bits) - 1)).count_ones()
+}
+
+/// How many bits are set in the whole words of row a. O(n / 64).
+fn whole_ones(words: &[u64], n: usize, a: usize) -> u32
+    requires whole { length words.now ≡ n * row_words n }
+    requires small { n < 65536 }
+    requires row { a < n }
+    ensures value { result ≡ count_below (n / 64 * 64) (at words.now n a) }
+    ensures few { result ≤ n }
+{
+    let start = a * row_words(n);
+    let mut count: u32 = 0;
+    for k in 0..n / 64 {
+        count += words[start + k].count_ones();
+    }
+    count
+}
+
+/// How many bits are set in the columns of row a behind its whole words. O(1).
+fn rest_ones(words: &[u64], n: usize, a: usize) -> u32
+    requires whole { length words.now ≡ n * row_words n }
+    requires small { n < 65536 }
+    requires row { a < n }
+    ensures value { result ≡ count_below (n % 64) (λ i. at words.now n a (n / 64 * 64 + i)) }
+    ensures few { result ≤ 64 }
+{
+    if n % 64 == 0 {
+        0
+    } else {
+        first_ones(words[a * row_words(n) + n / 64], n % 64)
+    }
+}
+
+/// How many bits are set in row a. O(n / 64).
+pub fn count_row(words: &[u64], n: usize, a: usize) -> u16
+    requires whole { length words.now ≡ n * row_words n }
+    requires small { n < 65536 }
+    requires row { a < n }
+    ensures { result ≡ count_below n (at words.now n a) }
+{
+    (whole_ones(words, n, a) + rest_ones(words, n, a)) as u16
 }
 
 /// Sets the bit in row a and column b.

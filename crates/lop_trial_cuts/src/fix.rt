@@ -18,6 +18,15 @@ fn decision(fixings: &Fixings, a: u16, b: u16) -> Option<Decision> {
     }
 }
 
+// How many objects `a` is fixed before, where it is an object of the fixings.
+fn count_after(fixings: &Fixings, a: u16) -> Option<u16> {
+    if a < fixings.n() {
+        Some(fixings.count_after(a))
+    } else {
+        None
+    }
+}
+
 // Adds an undecided pair, and says whether it is one.
 fn add(fixings: &mut Fixings, a: u16, b: u16) -> bool {
     let n = fixings.n();
@@ -79,6 +88,9 @@ fn chains_across_words(rt: HostRuntime) -> Result<(), Fail> {
     for (a, b) in [(63, 69), (63, 0), (63, 64), (69, 0), (69, 64), (0, 64)] {
         assert_eq!(rt; decision(&fixings, a, b), Some(Decision::Before), "{a} {b}");
         assert_eq!(rt; decision(&fixings, b, a), Some(Decision::After), "{b} {a}");
+    }
+    for (a, count) in [(63, 3), (69, 2), (0, 1), (64, 0), (62, 0)] {
+        assert_eq!(rt; count_after(&fixings, a), Some(count), "{a}");
     }
     for (a, b) in [(62, 63), (64, 65), (1, 0), (69, 68)] {
         assert_eq!(rt;

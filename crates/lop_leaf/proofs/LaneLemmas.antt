@@ -1,5 +1,5 @@
 -- The greater of two signed lanes.
-use Rattle.std.proofs.Common.{◌≡◌, ◌^◌, ◌-◌, ℕ, zero, suc, Bool, true, false, cond, ◌<◌, refl, ◌∙◌, ap, arith, ℤ, to_z, of_z, FitsSigned}
+use Rattle.std.proofs.Common.{◌≡◌, ◌^◌, ◌-◌, ℕ, zero, suc, Bool, true, false, cond, ◌<◌, refl, ◌∙◌, arith, ℤ, to_z, of_z, FitsSigned}
 use Rattle.std.specs.Int.{w64, int_max}
 use Rattle.std.specs.Int.Signed.{lt_z}
 use Rattle.std.proofs.lemmas.Int.{to_z-of_z}

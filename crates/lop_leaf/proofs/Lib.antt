@@ -4,7 +4,6 @@ pub mod ClearLemmas
 pub mod ResidualLemmas
 pub mod PackingLemmas
 pub mod MarginLemmas
-pub mod RowSums
 pub mod SpentLemmas
 pub mod StillLemmas
 pub mod PackingValue

@@ -1,5 +1,5 @@
 -- The table of signed margins: what a write of one leaves, and what the first ones show.
-use Rattle.std.proofs.Common.{◌≡◌, ◌≢◌, ◌⊎◌, ℕ, zero, suc, ◌+◌, ◌-◌, ◌*◌, ◌^◌, ◌<◌, ◌≤◌, min, Bool, true, false, cond, eqb, ltb, ◌&&◌, List, [], length, get_or, set, refl, sym, ◌∙◌, ap, subst, inl, inr, Option, Some, None, ℤ, pos, negsuc, neg_ℤ, ◌-ℤ◌, ◌≤ℤ◌, ◌<ℤ◌, arith, to_z, of_z, FitsSigned}
+use Rattle.std.proofs.Common.{◌≡◌, ◌≢◌, ◌⊎◌, ℕ, zero, suc, ◌+◌, ◌-◌, ◌*◌, ◌^◌, ◌<◌, ◌≤◌, min, Bool, true, false, cond, eqb, ltb, ◌&&◌, List, [], length, get_or, set, refl, sym, ◌∙◌, ap, subst, inl, inr, Option, Some, None, ℤ, pos, negsuc, neg_ℤ, ◌-ℤ◌, ◌≤ℤ◌, arith, to_z, of_z, FitsSigned}
 use Rattle.std.specs.Prelude.{unsigned_abs}
 use Rattle.std.specs.Int.{w64, int_max, int_min}
 use Rattle.std.proofs.lemmas.Int.{ints, clamps, to_z-of_z}
@@ -7,7 +7,7 @@ use Rattle.std.proofs.lemmas.Bool.{cases_lt, cases_eq}
 use Rattle.std.proofs.lemmas.Bool.Decides.{nat_tests}
 use Rattle.std.proofs.lemmas.List.{get_or-set_same, get_or-set_other}
 use Rattle.lop_model.specs.declared.pair.Pair.{Pair}
-use Rattle.lop_model.specs.Sums.{sum_below}
+use Rattle.lop_model.specs.Sums.{sum_below, above}
 use Rattle.lop_model.specs.Matrix.{Matrix, entry, pair_absolute, absolute_total, IsWeights}
 use Rattle.lop_model.specs.Fixings.{has_pair}
 use Rattle.lop_model.specs.Bound.{pair_value}
@@ -15,11 +15,11 @@ use Rattle.lop_model.proofs.CellLemmas.{read-set}
 use Rattle.lop_model.proofs.MatrixLemmas.{unsigned_abs_bounds}
 use Rattle.lop_cuts.specs.Lagrangian.{Term, reduced_entry}
 use Rattle.lop_leaf.specs.Packing.{positive_part, residual}
-use Rattle.lop_leaf.specs.Table.{way, above, signed, slack, lowered, IsResidualWord, IsMargin, HasResiduals, AreBounded}
-use Rattle.lop_leaf.proofs.ChargeLemmas.{entry_low, entry_high}
+use Rattle.lop_leaf.specs.Table.{way, signed, slack, lowered, IsResidualWord, IsMargin, HasResiduals, AreBounded}
+use Rattle.lop_leaf.proofs.ChargeLemmas.{entry_low}
 use Rattle.lop_leaf.proofs.ResidualLemmas.{part-is, part-to_zero}
 use Rattle.lop_leaf.proofs.PackingLemmas.{free_word}
-use Rattle.lop_leaf.proofs.RowSums.{IsBetween, row_between}
+use Rattle.lop_model.proofs.RowSums.{IsBetween, row_between}
 
 -- ---- margins of either way
 

@@ -1,5 +1,5 @@
 -- The steps of packing, over a table of residuals.
-use Rattle.std.proofs.Common.{◌≡◌, Option, Some, None, ◌≢◌, ◌⊎◌, ℕ, suc, ◌+◌, ◌-◌, ◌*◌, ◌^◌, ◌<◌, ◌≤◌, min, Bool, true, false, cond, eqb, ◌&&◌, ◌||◌, List, [], ◌∷◌, ◌++◌, length, get_or, set, refl, sym, ◌∙◌, ap, subst, inl, inr, ℤ, pos, negsuc, neg_ℤ, ◌+ℤ◌, ◌-ℤ◌, ◌*ℤ◌, ◌≤ℤ◌, ◌<ℤ◌, arith}
+use Rattle.std.proofs.Common.{◌≡◌, Option, Some, None, ◌≢◌, ◌⊎◌, ℕ, suc, ◌+◌, ◌-◌, ◌^◌, ◌<◌, ◌≤◌, min, Bool, true, false, cond, eqb, ◌&&◌, ◌||◌, List, [], ◌∷◌, ◌++◌, length, get_or, refl, sym, ◌∙◌, ap, subst, inl, inr, ℤ, pos, negsuc, neg_ℤ, ◌+ℤ◌, ◌-ℤ◌, ◌*ℤ◌, ◌≤ℤ◌, ◌<ℤ◌, arith}
 use Rattle.std.specs.Prelude.{unsigned_abs}
 use Rattle.std.proofs.Math.IntN.{suc_ℤ-*ℤ, zero-*ℤ}
 use Rattle.std.proofs.lemmas.Int.{ints}
@@ -19,7 +19,6 @@ use Rattle.lop_fix.specs.PartialOrder.{FixedPairs, IsPartialOrder}
 use Rattle.lop_leaf.specs.Record.{ScaledTerms}
 use Rattle.lop_leaf.specs.Packing.{positive_part, residual, lesser, residual_number, cycle_residual, IsExhausted, AreThree, dicycle, in_turn}
 use Rattle.lop_leaf.specs.Table.{IsResidualWord, lowered, slack, HasResiduals, IsSpentCycle, IsSpent, IsPacking}
-use Rattle.lop_model.proofs.CellLemmas.{read-set}
 use Rattle.lop_leaf.proofs.ChargeLemmas.{entries_within}
 use Rattle.lop_leaf.proofs.ResidualLemmas.{residual_of, word_step, least_word, limited, lowered-zero, lowered-limited, arc_cases, one_way, reduced-dicycle}
 

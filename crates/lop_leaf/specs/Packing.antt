@@ -7,6 +7,7 @@ use Rattle.lop_model.specs.Bound.{pair_bound}
 use Rattle.lop_cuts.specs.declared.kind.CutKind.{CutKind}
 use Rattle.lop_cuts.specs.declared.kind.CutKind.TheVariants.{Dicycle}
 use Rattle.lop_cuts.specs.Lagrangian.{Term, reduced_entry}
+use Rattle.lop_leaf.specs.declared.leaf_record.TheConstants.{MAX_TERMS}
 use Rattle.lop_leaf.specs.Record.{ScaledTerms}
 
 -- a number, or 0 in place of a negative one
@@ -56,13 +57,13 @@ pub record IsExhausted (G : List Pair) (r : ℕ → ℕ → ℤ) (cut : CutKind)
 
 -- no dicycle keeps three positive residuals in what the terms leave, unless they are all the 4,096 that there may be
 abbrev pub AreExhausted : Matrix → List Pair → List Term → Type 0
-AreExhausted C G terms = (length terms ≡ 4096) ⊎ ((a b c : ℕ) → AreThree C.size a b c → cycle_residual G (reduced_entry C 1 terms) a b c ≡ 0)
+AreExhausted C G terms = (length terms ≡ MAX_TERMS) ⊎ ((a b c : ℕ) → AreThree C.size a b c → cycle_residual G (reduced_entry C 1 terms) a b c ≡ 0)
 
 -- the terms after the cycle a, b, c: where its least residual in the reduced entries is positive, it is the cycle's multiplier. There are at most 4,096 terms
 abbrev pub pack_cycle : Matrix → List Pair → ℕ → ℕ → ℕ → List Term → List Term
 pack_cycle C G a b c terms =
     let m = cycle_residual G (reduced_entry C 1 terms) a b c in
-    if nat_lt 0 m && nat_lt (length terms) 4096 then terms ++ dicycle a b c m ∷ [] else terms
+    if nat_lt 0 m && nat_lt (length terms) MAX_TERMS then terms ++ dicycle a b c m ∷ [] else terms
 
 -- the terms after both cycles of three objects
 abbrev pub pack_triple : Matrix → List Pair → ℕ → ℕ → ℕ → List Term → List Term

@@ -1,6 +1,7 @@
 use Rattle.std.specs.Prelude.{◌≢◌, ℕ, ◌<◌, ◌≤◌, ◌^◌, List, [], length, All, AllPairs}
 use Rattle.lop_cuts.specs.Kind.{IsCut, FitsCut}
 use Rattle.lop_cuts.specs.Lagrangian.{Term}
+use Rattle.lop_leaf.specs.declared.leaf_record.TheConstants.{MAX_SCALE, MAX_TERMS}
 
 -- the multipliers of a leaf's cuts, as contracts see them: a scale, and the cuts with their multipliers
 pub record ScaledTerms : Type 0 where
@@ -19,8 +20,8 @@ pub record IsMultiplier (m : ℕ) : Type 0 where
 -- a scale from 1 to 65,536, and at most 4,096 terms of different cuts
 pub record IsScaledTerms (r : ScaledTerms) : Type 0 where
   pub positive : 1 ≤ r.scale
-  pub within_limit : r.scale ≤ 65536
-  pub bounded_count : length r.terms ≤ 4096
+  pub within_limit : r.scale ≤ MAX_SCALE
+  pub bounded_count : length r.terms ≤ MAX_TERMS
   pub different : AllPairs (λ t u. t.cut ≢ u.cut) r.terms
   pub multipliers : All (λ t. IsMultiplier t.multiplier) r.terms
   pub cuts : All (λ t. IsCut t.cut) r.terms

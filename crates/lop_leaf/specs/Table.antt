@@ -6,16 +6,13 @@ use Rattle.lop_model.specs.Fixings.{has_pair}
 use Rattle.lop_cuts.specs.declared.kind.CutKind.{CutKind}
 use Rattle.lop_cuts.specs.declared.kind.CutKind.TheVariants.{Dicycle}
 use Rattle.lop_cuts.specs.Lagrangian.{Term, reduced_entry}
+use Rattle.lop_leaf.specs.declared.leaf_record.TheConstants.{MAX_TERMS}
 use Rattle.lop_leaf.specs.Record.{ScaledTerms, FitTerms}
 use Rattle.lop_leaf.specs.Packing.{positive_part, residual, AreThree}
 
 -- what an order gains at a pair by one way, as rows of bounds have it: the entry, and -2^63 for the way that the pair's fixing leaves out
 abbrev pub way : Matrix → List Pair → ℕ → ℕ → ℤ
 way C G a b = if has_pair G b a then neg_ℤ (pos (2 ^ 63)) else entry C a b
-
--- f above the diagonal, and 0 elsewhere
-abbrev pub above : (ℕ → ℕ → ℤ) → ℕ → ℕ → ℤ
-above f a b = if nat_lt a b then f a b else pos 0
 
 -- the margin of the arc from a to b in a table of n rows of n margins, of which those above the diagonal count: what stands there, or for an arc below the diagonal that of its reverse turned round
 abbrev pub signed : List ℤ → ℕ → ℕ → ℕ → ℤ
@@ -70,7 +67,7 @@ pub record IsPacking (C : Matrix) (G : List Pair) (r : ScaledTerms) (t : List �
 
 -- the cycle a, b, c has had its turn: the record is full, or an arc of the cycle has no residual left
 abbrev pub IsPassed : ℕ → ScaledTerms → List ℤ → ℕ → ℕ → ℕ → Type 0
-IsPassed n r t a b c = (4096 ≤ length r.terms) ⊎ IsSpentCycle n t a b c
+IsPassed n r t a b c = (MAX_TERMS ≤ length r.terms) ⊎ IsSpentCycle n t a b c
 
 -- both cycles of three objects have had their turn
 abbrev pub ArePassed : ℕ → ScaledTerms → List ℤ → ℕ → ℕ → ℕ → Type 0
@@ -78,7 +75,7 @@ ArePassed n r t i j k = IsPassed n r t i j k × IsPassed n r t i k j
 
 -- no cycle over i and j can take anything: the record is full, or neither arc between them has a residual left
 abbrev pub IsPassedPair : ℕ → ScaledTerms → List ℤ → ℕ → ℕ → Type 0
-IsPassedPair n r t i j = (4096 ≤ length r.terms) ⊎ ((slack t n i j ≡ 0) × (slack t n j i ≡ 0))
+IsPassedPair n r t i j = (MAX_TERMS ≤ length r.terms) ⊎ ((slack t n i j ≡ 0) × (slack t n j i ≡ 0))
 
 -- the record s and the table u come after r and t: there are no fewer terms, and a residual that was 0 is 0 still
 pub record IsLater (n : ℕ) (r : ScaledTerms) (t : List ℤ) (s : ScaledTerms) (u : List ℤ) : Type 0 where

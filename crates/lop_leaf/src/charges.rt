@@ -1,6 +1,7 @@
 // What a record's terms charge at the arcs of their cuts, and what pairs of objects give by the reduced entries: the
 // scale times the entry, less the charge.
 ghost use Rattle.std.specs.Prelude.{◌≡◌, ◌≢◌, ℕ, ◌+◌, ◌*◌, ◌<◌, ◌≤◌, ◌^◌, [], length, All, pos, neg_ℤ, ◌≤ℤ◌, ◌<ℤ◌, if◌then◌else◌};
+ghost use Rattle.lop_model.specs.declared.weights.TheConstants.{MAX_OBJECTS};
 ghost use Rattle.lop_model.specs.Sums.{pair_sum};
 ghost use Rattle.lop_model.specs.Bound.{pair_value};
 ghost use Rattle.lop_model.specs.Fixings.{has_pair};
@@ -20,7 +21,7 @@ use lop_model::{Pair, Weights};
 /// Adds the multiplier at each of the arcs. O(arcs).
 fn charge_arcs(table: &mut [u128], n: usize, arcs: &[Pair], multiplier: u64)
     requires square { length table.old ≡ n * n }
-    requires within_limit { n ≤ 512 }
+    requires within_limit { n ≤ MAX_OBJECTS }
     requires below { All (IsArcBelow n) arcs.now }
     requires few { length arcs.now ≤ 64 }
     requires bounded { (a b : ℕ) → a < n → b < n → cell table.old n a b ≤ 2 ^ 100 }
@@ -56,7 +57,7 @@ fn three_arcs(objects: &[u16; 3]) -> [Pair; 3]
 /// Adds the multiplier at each arc of the cut. O(arcs).
 fn charge_cut(table: &mut [u128], n: usize, cut: &Cut, multiplier: u64)
     requires square { length table.old ≡ n * n }
-    requires within_limit { n ≤ 512 }
+    requires within_limit { n ≤ MAX_OBJECTS }
     requires fits { FitsCut n cut.now }
     requires bounded { (a b : ℕ) → a < n → b < n → cell table.old n a b ≤ 2 ^ 100 }
     ensures same_length { length table.new ≡ length table.old }
@@ -73,7 +74,7 @@ fn charge_cut(table: &mut [u128], n: usize, cut: &Cut, multiplier: u64)
 /// Adds each term's multiplier at the arcs of its cut, and answers the multiplied right sides, added up. O(arcs of
 /// all terms).
 fn charge_terms(rec: &LeafRecord, table: &mut [u128], n: usize) -> u128
-    requires within_limit { n ≤ 512 }
+    requires within_limit { n ≤ MAX_OBJECTS }
     requires fit { FitTerms n rec.now.terms }
     requires none { HasCharges n [] table.old }
     ensures sides { result ≡ right_sides rec.now.terms }
@@ -93,7 +94,7 @@ fn charge_terms(rec: &LeafRecord, table: &mut [u128], n: usize) -> u128
 /// Charges nothing at each of the arcs. O(arcs).
 fn clear_arcs(table: &mut [u128], n: usize, arcs: &[Pair])
     requires square { length table.old ≡ n * n }
-    requires within_limit { n ≤ 512 }
+    requires within_limit { n ≤ MAX_OBJECTS }
     requires below { All (IsArcBelow n) arcs.now }
     ensures same_length { length table.new ≡ length table.old }
     ensures each { (a b : ℕ) → a < n → b < n → cell table.new n a b ≡ (if has_pair arcs.now a b then 0 else cell table.old n a b) }
@@ -106,7 +107,7 @@ fn clear_arcs(table: &mut [u128], n: usize, arcs: &[Pair])
 /// Charges nothing at each arc of the cut. O(arcs).
 fn clear_cut(table: &mut [u128], n: usize, cut: &Cut)
     requires square { length table.old ≡ n * n }
-    requires within_limit { n ≤ 512 }
+    requires within_limit { n ≤ MAX_OBJECTS }
     requires fits { FitsCut n cut.now }
     ensures same_length { length table.new ≡ length table.old }
     ensures each { (a b : ℕ) → a < n → b < n → cell table.new n a b ≡ (if has_pair (arcs_of cut.now) a b then 0 else cell table.old n a b) }
@@ -119,7 +120,7 @@ fn clear_cut(table: &mut [u128], n: usize, cut: &Cut)
 
 /// Charges nothing any more. O(arcs of all terms).
 fn clear_terms(rec: &LeafRecord, table: &mut [u128], n: usize)
-    requires within_limit { n ≤ 512 }
+    requires within_limit { n ≤ MAX_OBJECTS }
     requires fit { FitTerms n rec.now.terms }
     requires charged { HasCharges n rec.now.terms table.old }
     ensures none { HasCharges n [] table.new }

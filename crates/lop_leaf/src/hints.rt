@@ -1,6 +1,7 @@
 ghost use Rattle.std.specs.Prelude.{◌≡◌, ◌≢◌, ℕ, ◌<◌, ◌≤◌, ◌^◌, length, All};
 ghost use Rattle.std.specs.List.{AllPairs};
 ghost use Rattle.lop_cuts.specs.Kind.{FitsCut};
+ghost use Rattle.lop_leaf.specs.declared.leaf_record.TheConstants.{MAX_SCALE, MAX_TERMS};
 ghost use Rattle.lop_leaf.specs.Record.{FitTerms};
 ghost use Rattle.lop_leaf.specs.Packing.{positive_part};
 ghost use Rattle.lop_leaf.specs.Hints.{rounded_multiplier, rounded_hints};
@@ -19,7 +20,7 @@ fn positive_part(dual: i64) -> u64
 /// The dual times the scale and 2^shift, rounded down from units of 2^-32 to a multiplier, or to 0.
 fn rounded(dual: i64, shift: u32, scale: u32) -> u64
     requires shift { shift ≤ 40 }
-    requires within_limit { scale ≤ 65536 }
+    requires within_limit { scale ≤ MAX_SCALE }
     ensures value { result ≡ rounded_multiplier shift scale dual }
     ensures multiplier { result < 2 ^ 63 }
 {
@@ -33,11 +34,11 @@ fn rounded(dual: i64, shift: u32, scale: u32) -> u64
 /// memory is taken.
 pub fn round_hints(cuts: &[Cut], duals: &[i64], shift: u32, scale: u32, rec: &mut LeafRecord)
     requires same_length { length cuts.now ≡ length duals.now }
-    requires at_most { length cuts.now ≤ 4096 }
+    requires at_most { length cuts.now ≤ MAX_TERMS }
     requires different { AllPairs (λ a b. a ≢ b) cuts.now }
     requires shift { shift ≤ 40 }
     requires positive { 1 ≤ scale }
-    requires within_limit { scale ≤ 65536 }
+    requires within_limit { scale ≤ MAX_SCALE }
     ensures exact { rec.new ≡ rounded_hints shift scale cuts.now duals.now }
     ensures fit { (n : ℕ) → All (FitsCut n) cuts.now → FitTerms n rec.new.terms }
 {

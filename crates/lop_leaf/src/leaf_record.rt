@@ -37,13 +37,14 @@ pub struct LeafRecord {
 impl Model for LeafRecord {
     ghost use Rattle.std.specs.Prelude.{◌≤◌};
     ghost use Rattle.std.specs.Vec.{vec_capacity};
+    ghost use Rattle.lop_leaf.specs.declared.leaf_record.TheConstants.{MAX_TERMS};
     ghost use Rattle.lop_leaf.specs.Record.{ScaledTerms, IsScaledTerms};
 
     ghost Value = { ScaledTerms };
 
     ghost view = { λ r. record { scale = r.scale; terms = r.terms.items } };
 
-    ghost invariant = { λ r. IsScaledTerms (record { scale = r.scale; terms = r.terms.items }) × (4096 ≤ vec_capacity r.terms) };
+    ghost invariant = { λ r. IsScaledTerms (record { scale = r.scale; terms = r.terms.items }) × (MAX_TERMS ≤ vec_capacity r.terms) };
 }
 
 impl LeafRecord {
@@ -108,7 +109,7 @@ impl LeafRecord {
     pub fn set_scale(&mut self, scale: u32)
         requires empty { self.old.terms ≡ [] }
         requires positive { 1 ≤ scale }
-        requires within_limit { scale ≤ 65536 }
+        requires within_limit { scale ≤ MAX_SCALE }
         ensures { self.new ≡ record { scale = scale; terms = [] } }
     {
         self.scale = scale;
@@ -116,7 +117,7 @@ impl LeafRecord {
 
     /// Appends a term.
     pub fn put(&mut self, cut: Cut, multiplier: u64)
-        requires room { length self.old.terms < 4096 }
+        requires room { length self.old.terms < MAX_TERMS }
         requires new_cut { All (λ t. t.cut ≢ cut) self.old.terms }
         requires multiplier { IsMultiplier multiplier }
         ensures { self.new ≡ record { scale = self.old.scale; terms = self.old.terms ++ record { cut = cut; multiplier = multiplier } ∷ [] } }

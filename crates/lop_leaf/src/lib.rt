@@ -11,8 +11,6 @@ mod leaf_record;
 mod margins;
 mod pack;
 mod rows;
-#[cfg(test)]
-mod tests;
 mod ticket;
 
 pub use bound::{PairRoom, bound_of, upper};

@@ -1,6 +1,7 @@
 // The table of signed margins over the pairs i < j that packing lowers. The sign tells which way a pair leans, and
 // `i64::MAX` or its reverse a pair that is fixed.
 ghost use Rattle.std.specs.Prelude.{true, false, ◌≡◌, ◌≢◌, ℕ, ◌-◌, ◌*◌, ◌<◌, ◌≤◌, ◌^◌, [], ◌∷◌, length, slice_index_or, min, pos, neg_ℤ, ◌≤ℤ◌, if◌then◌else◌, ◌==◌, ◌&&◌};
+ghost use Rattle.lop_model.specs.declared.weights.TheConstants.{MAX_OBJECTS};
 ghost use Rattle.lop_model.specs.Fixings.{has_pair};
 ghost use Rattle.lop_model.specs.Bound.{pair_bound};
 ghost use Rattle.lop_cuts.specs.Arcs.{cycle_arcs};
@@ -98,7 +99,7 @@ pub fn load_margins(
 /// The margin of a pair of objects, the lesser first.
 fn margin_at(table: &[i64], n: usize, a: u16, b: u16) -> i64
     requires square { length table.now ≡ n * n }
-    requires within_limit { n ≤ 512 }
+    requires within_limit { n ≤ MAX_OBJECTS }
     requires rising { a < b }
     requires second { b < n }
     requires bounded { AreBounded n table.now }
@@ -118,7 +119,7 @@ fn positive(margin: i64) -> u64
 /// Whether the pair leans from the lesser object to the other.
 pub fn leans_forth(table: &[i64], n: usize, i: u16, j: u16) -> bool
     requires square { length table.now ≡ n * n }
-    requires within_limit { n ≤ 512 }
+    requires within_limit { n ≤ MAX_OBJECTS }
     requires rising { i < j }
     requires second { j < n }
     requires bounded { AreBounded n table.now }
@@ -131,7 +132,7 @@ pub fn leans_forth(table: &[i64], n: usize, i: u16, j: u16) -> bool
 /// Whether neither arc between the two has anything left.
 pub fn is_even(table: &[i64], n: usize, i: u16, j: u16) -> bool
     requires square { length table.now ≡ n * n }
-    requires within_limit { n ≤ 512 }
+    requires within_limit { n ≤ MAX_OBJECTS }
     requires rising { i < j }
     requires second { j < n }
     requires bounded { AreBounded n table.now }
@@ -144,7 +145,7 @@ pub fn is_even(table: &[i64], n: usize, i: u16, j: u16) -> bool
 /// The least residual of the cycle i, j, k.
 pub fn least_forth(table: &[i64], n: usize, i: u16, j: u16, k: u16) -> u64
     requires square { length table.now ≡ n * n }
-    requires within_limit { n ≤ 512 }
+    requires within_limit { n ≤ MAX_OBJECTS }
     requires first { i < j }
     requires second { j < k }
     requires third { k < n }
@@ -160,7 +161,7 @@ pub fn least_forth(table: &[i64], n: usize, i: u16, j: u16, k: u16) -> u64
 /// The least residual of the cycle i, k, j.
 pub fn least_back(table: &[i64], n: usize, i: u16, j: u16, k: u16) -> u64
     requires square { length table.now ≡ n * n }
-    requires within_limit { n ≤ 512 }
+    requires within_limit { n ≤ MAX_OBJECTS }
     requires first { i < j }
     requires second { j < k }
     requires third { k < n }
@@ -191,7 +192,7 @@ fn less(margin: i64, m: u64) -> i64
 /// Takes m off the residual of an arc, where it has a limit.
 fn lower(table: &mut [i64], n: usize, a: u16, b: u16, m: u64)
     requires square { length table.old ≡ n * n }
-    requires within_limit { n ≤ 512 }
+    requires within_limit { n ≤ MAX_OBJECTS }
     requires first { a < n }
     requires second { b < n }
     requires differ { a ≢ b }
@@ -213,7 +214,7 @@ fn lower(table: &mut [i64], n: usize, a: u16, b: u16, m: u64)
 /// Takes m off the residuals of the cycle a, b, c.
 pub fn lower_cycle(table: &mut [i64], n: usize, a: u16, b: u16, c: u16, m: u64)
     requires square { length table.old ≡ n * n }
-    requires within_limit { n ≤ 512 }
+    requires within_limit { n ≤ MAX_OBJECTS }
     requires three { AreThree n a b c }
     requires bounded { AreBounded n table.old }
     requires first { m ≤ slack table.old n a b }

@@ -1,4 +1,5 @@
 ghost use Rattle.std.specs.Prelude.{true, ◌≡◌, ℕ, ◌*◌, ◌<◌, ◌≤◌, ◌^◌, [], List, length, sum_by, All, min, ◌≤ℤ◌};
+ghost use Rattle.lop_model.specs.declared.weights.TheConstants.{MAX_OBJECTS};
 ghost use Rattle.lop_model.specs.Order.{IsOrder};
 ghost use Rattle.lop_model.specs.Matrix.{weight};
 ghost use Rattle.lop_model.specs.Fixings.{IsLinearExtension};
@@ -78,7 +79,7 @@ fn pack_both(
 /// Whether no cycle over i and j can take anything: the record is full, or neither arc between them has a residual.
 fn is_passed(table: &[i64], n: usize, rec: &LeafRecord, i: u16, j: u16) -> bool
     requires square { length table.now ≡ n * n }
-    requires within_limit { n ≤ 512 }
+    requires within_limit { n ≤ MAX_OBJECTS }
     requires first { i < j }
     requires second { j < n }
     requires bounded { AreBounded n table.now }

@@ -1,10 +1,10 @@
 // What the pairs of an object and each later one give each way, and the pair bound, which is their greater ways.
 ghost use Rattle.std.specs.Prelude.{◌≡◌, ◌≢◌, ℕ, ◌<◌, ◌≤◌, ◌^◌, length, slice_index_or, pos, neg_ℤ, ◌≤ℤ◌};
 ghost use Rattle.std.specs.Int.{int_max};
-ghost use Rattle.lop_model.specs.Sums.{sum_below};
+ghost use Rattle.lop_model.specs.Sums.{sum_below, above};
 ghost use Rattle.lop_model.specs.Matrix.{entry};
 ghost use Rattle.lop_model.specs.Bound.{pair_value, pair_bound};
-ghost use Rattle.lop_leaf.specs.Table.{way, above};
+ghost use Rattle.lop_leaf.specs.Table.{way};
 
 use crate::lanes::greater_of;
 use lop_fix::{Decision, Fixings};

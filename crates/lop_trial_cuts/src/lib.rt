@@ -1,5 +1,5 @@
-//! Worked rows of the model, of fixed pairs, of cuts and their separation, and of the simplex. It holds tests and no code,
-//! so that the crates which it tries are proved once and not again with tests of their own.
+//! Worked rows of the model, of fixed pairs, of cuts and their separation, of records and bounds, and of the simplex. It
+//! holds tests and no code, so that the crates which it tries are proved once and not again with tests of their own.
 #![tactic(auto)]
 
 #[cfg(test)]
@@ -10,6 +10,8 @@ mod cuts;
 mod fence;
 #[cfg(test)]
 mod fix;
+#[cfg(test)]
+mod leaf;
 #[cfg(test)]
 mod mobius;
 #[cfg(test)]

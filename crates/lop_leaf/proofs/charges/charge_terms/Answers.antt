@@ -1,6 +1,6 @@
-use Rattle.std.proofs.Common.{◌≡◌, ◌+◌, ◌*◌, ◌^◌, ◌<◌, ◌≤◌, List, length, get_or, take, sym, ◌∙◌, ap, subst, arith}
+use Rattle.std.proofs.Common.{◌≡◌, ◌+◌, ◌*◌, ◌^◌, ◌<◌, ◌≤◌, length, get_or, take, sym, ◌∙◌, ap, subst, arith}
 use Rattle.lop_cuts.specs.Arcs.{arc}
-use Rattle.lop_cuts.specs.Kind.{IsArcBelow, IsCut, arcs_of, right_side_of, FitsCut}
+use Rattle.lop_cuts.specs.Kind.{IsCut, arcs_of, right_side_of, FitsCut}
 use Rattle.lop_cuts.specs.Lagrangian.{Term, charge, right_sides}
 use Rattle.lop_cuts.proofs.ArcLemmas.{times}
 use Rattle.lop_cuts.proofs.LagrangianLemmas.{charge_more}

@@ -2,7 +2,6 @@ use Rattle.std.proofs.Common.{◌≡◌, ◌∙◌, ap, pos, ◌+ℤ◌, rules, 
 use Rattle.std.specs.Int.{w128}
 use Rattle.std.proofs.lemmas.Int.{to_z-of_z, to_z_pos}
 use Rattle.lop_cuts.specs.Lagrangian.{right_sides}
-use Rattle.lop_leaf.specs.Bound.{record_value}
 use Rattle.lop_leaf.proofs.charges.charged_value.Goals as goal
 
 pub returns-clause-value : goal.returns-clause-value

@@ -1,4 +1,4 @@
-use Rattle.std.proofs.Common.{◌≡◌, ◌+◌, ◌*◌, ◌<◌, ◌≤◌, length, get_or, cond, sym, ◌∙◌, ap, subst, inr, refl, arith}
+use Rattle.std.proofs.Common.{◌≡◌, get_or, cond, sym, ◌∙◌, ap, subst, inr, refl, arith}
 use Rattle.lop_model.specs.Fixings.{has_pair}
 use Rattle.lop_model.specs.Cells.{cell}
 use Rattle.lop_cuts.specs.declared.kind.CutKind.{CutKind}

@@ -1,11 +1,10 @@
 use Rattle.std.proofs.Common.{◌≡◌, ap, ◌∙◌, arith}
 use Rattle.std.proofs.lemmas.Int.{ints}
-use Rattle.lop_model.specs.Sums.{sum_below}
+use Rattle.lop_model.specs.Sums.{sum_below, above}
 use Rattle.lop_model.specs.Bound.{pair_value}
 use Rattle.lop_model.proofs.SumLemmas.{sum_below_more}
 use Rattle.lop_cuts.specs.Lagrangian.{reduced_entry}
-use Rattle.lop_leaf.specs.Table.{above}
-use Rattle.lop_leaf.proofs.RowSums.{above_is, row_start, pair_sum-rows}
+use Rattle.lop_model.proofs.RowSums.{above_is, row_start, pair_sum-rows}
 use Rattle.lop_leaf.proofs.charges.pair_values.Goals as goal
 
 pub loop-j-init : goal.loop-j-init

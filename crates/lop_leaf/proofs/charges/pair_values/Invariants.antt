@@ -1,8 +1,7 @@
 use Rattle.std.proofs.Common.{◌≡◌, ◌*◌, ◌+◌, ◌^◌, pos, ◌+ℤ◌, ◌≤ℤ◌, neg_ℤ}
-use Rattle.lop_model.specs.Sums.{sum_below}
+use Rattle.lop_model.specs.Sums.{sum_below, above}
 use Rattle.lop_model.specs.Bound.{pair_value}
 use Rattle.lop_cuts.specs.Lagrangian.{reduced_entry}
-use Rattle.lop_leaf.specs.Table.{above}
 use Rattle.lop_leaf.proofs.charges.pair_values.Given as goal
 
 abbrev pub invariant-loop-i : goal.invariant-loop-i

@@ -1,5 +1,5 @@
-use Rattle.std.proofs.Common.{◌≡◌, ◌+◌, ℕ, ◌<◌, get_or, pos, ◌∙◌, ap, rules, arith, FitsSigned}
-use Rattle.std.specs.Int.{w64, int_max}
+use Rattle.std.proofs.Common.{◌+◌, ℕ, get_or, pos, ◌∙◌, ap, rules, arith}
+use Rattle.std.specs.Int.{int_max}
 use Rattle.std.proofs.lemmas.Simd.{get_or-put_chunk_at, get_or-put_chunk_below}
 use Rattle.lop_leaf.proofs.LaneLemmas.{below_four, lane_value}
 use Rattle.lop_leaf.proofs.lanes.greater_lanes.Goals as goal

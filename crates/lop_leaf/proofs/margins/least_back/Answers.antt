@@ -1,4 +1,4 @@
-use Rattle.std.proofs.Common.{◌≡◌, ◌<◌, min, neg_ℤ, ◌∙◌, ap, rules, arith, FitsSigned}
+use Rattle.std.proofs.Common.{◌≡◌, min, neg_ℤ, ◌∙◌, ap, rules, FitsSigned}
 use Rattle.std.specs.Int.{w64, int_min}
 use Rattle.std.proofs.lemmas.Int.{to_z-of_z}
 use Rattle.lop_leaf.specs.Packing.{positive_part}

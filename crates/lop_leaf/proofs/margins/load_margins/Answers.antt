@@ -1,13 +1,13 @@
 use Rattle.std.proofs.Common.{◌≡◌, ℕ, ◌<◌, ◌≤◌, ℤ, ap, inl, inr, ◌∙◌, sym, subst, rules, arith, to_z, of_z, FitsSigned}
 use Rattle.std.specs.Int.{w64, w128}
 use Rattle.std.proofs.lemmas.Int.{ints, to_z-of_z}
-use Rattle.lop_model.specs.Sums.{sum_below}
+use Rattle.lop_model.specs.Sums.{sum_below, above}
 use Rattle.lop_model.specs.Matrix.{entry}
-use Rattle.lop_model.specs.Bound.{pair_value, pair_bound}
+use Rattle.lop_model.specs.Bound.{pair_value}
 use Rattle.lop_model.proofs.SumLemmas.{sum_below_more}
 use Rattle.lop_leaf.proofs.SpentLemmas.{before_or_last}
-use Rattle.lop_leaf.specs.Table.{above, signed, IsMargin}
-use Rattle.lop_leaf.proofs.RowSums.{pair_sum-rows}
+use Rattle.lop_leaf.specs.Table.{signed, IsMargin}
+use Rattle.lop_model.proofs.RowSums.{pair_sum-rows}
 use Rattle.lop_leaf.proofs.MarginLemmas.{margins_loaded}
 use Rattle.lop_leaf.proofs.margins.load_margins.Goals as goal
 

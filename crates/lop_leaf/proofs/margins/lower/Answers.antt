@@ -1,4 +1,4 @@
-use Rattle.std.proofs.Common.{◌≡◌, ◌*◌, ◌+◌, ◌<◌, ℕ, cond, eqb, ◌&&◌, set, pos, neg_ℤ, ◌-ℤ◌, sym, ◌∙◌, ap, rules, arith, to_z, of_z, FitsSigned}
+use Rattle.std.proofs.Common.{◌≡◌, ◌*◌, ◌+◌, ◌<◌, ℕ, cond, eqb, ◌&&◌, set, pos, neg_ℤ, ◌-ℤ◌, ◌∙◌, ap, rules, arith, to_z, of_z, FitsSigned}
 use Rattle.std.specs.Int.{w64}
 use Rattle.std.proofs.lemmas.Int.{to_z-of_z}
 use Rattle.lop_leaf.specs.Packing.{positive_part}

@@ -1,4 +1,4 @@
-use Rattle.std.proofs.Common.{◌≡◌, eqb, ◌&&◌, false, sym, ◌∙◌, arith}
+use Rattle.std.proofs.Common.{◌≡◌, eqb, ◌&&◌, false, ◌∙◌, arith}
 use Rattle.std.proofs.lemmas.Bool.Decides.{nat_tests}
 use Rattle.lop_leaf.specs.Table.{slack, lowered}
 use Rattle.lop_leaf.proofs.MarginLemmas.{not_here}

@@ -1,7 +1,6 @@
-use Rattle.std.proofs.Common.{◌≡◌, ◌+◌, ◌*◌, ◌-◌, ◌^◌, get_or, pos, neg_ℤ, ◌≤ℤ◌, ◌∙◌, sym, subst, rules, to_z, of_z, FitsSigned}
+use Rattle.std.proofs.Common.{◌+◌, ◌*◌, ◌-◌, ◌^◌, get_or, pos, neg_ℤ, ◌≤ℤ◌, ◌∙◌, sym, subst, rules, FitsSigned}
 use Rattle.std.specs.Int.{w64}
 use Rattle.std.proofs.lemmas.Int.{to_z-of_z}
-use Rattle.lop_leaf.specs.Table.{signed}
 use Rattle.lop_leaf.proofs.MarginLemmas.{signed_forth, margin_low}
 use Rattle.lop_leaf.proofs.margins.margin_at.Goals as goal
 

@@ -1,4 +1,4 @@
-use Rattle.std.proofs.Common.{◌≡◌, ℕ, ◌-◌, ◌^◌, ◌<◌, true, false, pos, neg_ℤ, ℤ, ◌-ℤ◌, ◌≤ℤ◌, refl, sym, ◌∙◌, ap, subst, arith, to_z, of_z, FitsSigned}
+use Rattle.std.proofs.Common.{◌≡◌, ℕ, ◌-◌, ◌^◌, ◌<◌, true, false, pos, neg_ℤ, ℤ, ◌-ℤ◌, ◌≤ℤ◌, refl, sym, ◌∙◌, ap, arith, to_z, of_z, FitsSigned}
 use Rattle.std.specs.Int.{w64}
 use Rattle.std.proofs.lemmas.Int.{ints, to_z-of_z}
 use Rattle.lop_model.specs.Fixings.{has_pair}

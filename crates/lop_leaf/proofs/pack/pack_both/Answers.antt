@@ -1,4 +1,4 @@
-use Rattle.std.proofs.Common.{◌≡◌, ℕ, ◌<◌, min, ◌∙◌, ap, subst, arith}
+use Rattle.std.proofs.Common.{◌≡◌, ℕ, ◌<◌, subst}
 use Rattle.lop_leaf.specs.Table.{slack}
 use Rattle.lop_leaf.proofs.StillLemmas.{triple_forth, triple_back}
 use Rattle.lop_leaf.proofs.pack.pack_both.Goals as goal

@@ -1,12 +1,11 @@
 use Rattle.std.proofs.Common.{◌≡◌, ℕ, ap, ◌∙◌, rules, arith, to_z, of_z, FitsSigned}
 use Rattle.std.specs.Int.{w64, w128}
 use Rattle.std.proofs.lemmas.Int.{ints, to_z-of_z}
-use Rattle.lop_model.specs.Sums.{sum_below}
+use Rattle.lop_model.specs.Sums.{sum_below, above}
 use Rattle.lop_model.specs.Matrix.{entry}
-use Rattle.lop_model.specs.Bound.{pair_value, pair_bound}
+use Rattle.lop_model.specs.Bound.{pair_value}
 use Rattle.lop_model.proofs.SumLemmas.{sum_below_more}
-use Rattle.lop_leaf.specs.Table.{above}
-use Rattle.lop_leaf.proofs.RowSums.{pair_sum-rows}
+use Rattle.lop_model.proofs.RowSums.{pair_sum-rows}
 use Rattle.lop_leaf.proofs.rows.plain_bound.Goals as goal
 
 pub loop-i-preserved : goal.loop-i-preserved

@@ -1,12 +1,11 @@
 use Rattle.std.proofs.Common.{◌≡◌, ℕ, ◌+◌, ◌^◌, ◌<◌, pos, get_or, ℤ, ◌+ℤ◌, ◌∙◌, sym, subst, rules, arith, to_z, of_z, FitsSigned}
 use Rattle.std.specs.Int.{w64}
 use Rattle.std.proofs.lemmas.Int.{ints, to_z-of_z}
-use Rattle.lop_model.specs.Sums.{sum_below}
+use Rattle.lop_model.specs.Sums.{sum_below, above}
 use Rattle.lop_model.specs.Matrix.{entry}
 use Rattle.lop_model.specs.Bound.{pair_value}
 use Rattle.lop_model.proofs.SumLemmas.{sum_below_more}
-use Rattle.lop_leaf.specs.Table.{above}
-use Rattle.lop_leaf.proofs.RowSums.{above_is, row_start, IsBetween}
+use Rattle.lop_model.proofs.RowSums.{above_is, row_start, IsBetween}
 use Rattle.lop_leaf.proofs.MarginLemmas.{row_within, fits_word}
 use Rattle.lop_leaf.proofs.rows.row_sum.Goals as goal
 

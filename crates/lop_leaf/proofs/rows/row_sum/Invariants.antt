@@ -1,8 +1,7 @@
 use Rattle.std.proofs.Common.{◌≡◌}
-use Rattle.lop_model.specs.Sums.{sum_below}
+use Rattle.lop_model.specs.Sums.{sum_below, above}
 use Rattle.lop_model.specs.Matrix.{entry}
 use Rattle.lop_model.specs.Bound.{pair_value}
-use Rattle.lop_leaf.specs.Table.{above}
 use Rattle.lop_leaf.proofs.rows.row_sum.Given as goal
 
 abbrev pub invariant-loop-j : goal.invariant-loop-j

@@ -1,4 +1,4 @@
-use Rattle.std.proofs.Common.{◌≡◌, ◌≢◌, ◌<◌, ◌≤◌, get_or, pos, length, ◌∙◌, ap, arith}
+use Rattle.std.proofs.Common.{get_or, pos, ◌∙◌, ap, arith}
 use Rattle.std.specs.Int.{int_max}
 use Rattle.lop_leaf.specs.Table.{way}
 use Rattle.lop_leaf.proofs.FallLemmas.{not_both}

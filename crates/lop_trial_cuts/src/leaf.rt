@@ -1,9 +1,10 @@
 ghost use Rattle.std.specs.Prelude.{◌≤◌};
+ghost use Rattle.lop_leaf.specs.declared.leaf_record.TheConstants.{MAX_SCALE};
 
-use crate::lanes::greater_of;
-use crate::{Evaluated, LeafRecord, PairRoom, Ticket, bound_of, packing, round_hints, upper};
 use lop_cuts::Cut;
 use lop_fix::{Decision, Fixings};
+use lop_leaf::lanes::greater_of;
+use lop_leaf::{Evaluated, LeafRecord, PairRoom, Ticket, bound_of, packing, round_hints, upper};
 use lop_model::{Order, Pair, Weights};
 use std::alloc::{AllocError, Global};
 use std::test::Fail;
@@ -257,31 +258,11 @@ fn lanes_equal_the_plain_loop(rt: HostRuntime) -> Result<(), Fail> {
     Ok(())
 }
 
-fn sent<X: Send>(value: X) -> X {
-    value
-}
-
-fn shared<X: Sync>(_value: &X) {}
-
-// What threads share or pass on may be shared and passed on: the check proves the bounds.
-#[test]
-fn may_cross_threads(rt: HostRuntime) -> Result<(), Fail> {
-    let alloc = rt.alloc();
-    let ticket = Ticket::new(alloc, 1)?;
-    let result = Evaluated::new(alloc, 1)?;
-    shared(&ticket);
-    shared(&result);
-    let room = sent(PairRoom::new(alloc, 1)?);
-    shared(&room);
-    assert_eq!(rt; (sent(ticket).node(), sent(result).node()), (0, 0));
-    Ok(())
-}
-
 // The multiplier to which the dual of one cut is rounded, or None where there is no term.
 fn rounds(alloc: Global, dual: i64, shift: u32, scale: u32) -> Result<Option<u64>, Fail>
     requires shift { shift ≤ 40 }
     requires positive { 1 ≤ scale }
-    requires within_limit { scale ≤ 65536 }
+    requires within_limit { scale ≤ MAX_SCALE }
 {
     let mut rec = LeafRecord::new(alloc)?;
     let Ok(cut) = Cut::dicycle(0, 1, 2, 3) else {

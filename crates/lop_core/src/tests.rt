@@ -248,7 +248,23 @@ fn one_dicycle(
     Some([row(core, 1), row(core, 3)])
 }
 
-// What the readers say of the record of the first child of that root, which its own first child has too.
+// The numbers of the records of five nodes.
+fn five_numbers(core: &Core) -> Option<[u32; 5]> {
+    if core.nodes() != 5 {
+        return None;
+    }
+    Some([
+        core.record_of(0),
+        core.record_of(1),
+        core.record_of(2),
+        core.record_of(3),
+        core.record_of(4),
+    ])
+}
+
+// What the readers say of the record of the first child of that root, which its own first child has too. The root
+// reports the record that it has, and keeps number 0, with which its second child starts; the first child's is record
+// 1, with which its own children start.
 #[test]
 fn a_record_of_one_dicycle(rt: HostRuntime) -> Result<(), Fail> {
     let alloc = rt.alloc();
@@ -257,6 +273,7 @@ fn a_record_of_one_dicycle(rt: HostRuntime) -> Result<(), Fail> {
     let _child = evaluate_one(alloc, &mut core, 0, &order)?;
     let own = ((16, 1, 1), Some((0, 2)));
     assert_eq!(rt; one_dicycle(&core, [0, 1, 4]), Some([own, own]));
+    assert_eq!(rt; five_numbers(&core), Some([0, 1, 0, 1, 1]));
     Ok(())
 }
 

@@ -1,15 +1,21 @@
 -- Entries, word by word.
-use Rattle.std.proofs.Common.{◌≡◌, ℕ, zero, suc, ◌+◌, ◌-◌, ◌*◌, ◌<◌, ◌≤◌, max, Bool, true, false, ◌&&◌, cond, nat_lt, nat_le, nat_abs, List, [], ◌∷◌, ◌++◌, length, take, drop, map, get_or, ℤ, pos, Result, Err, refl, sym, ◌∙◌, ap, subst, inl, inr, arith}
+use Rattle.std.proofs.Common.{◌≡◌, ℕ, zero, suc, ◌+◌, ◌-◌, ◌*◌, ◌<◌, ◌≤◌, max, Bool, true, false, ◌&&◌, ◌==◌, cond, nat_lt, nat_le, nat_abs, ◌||◌, int_lt, ◌≤ℤ◌, List, [], ◌∷◌, ◌++◌, length, take, drop, map, get_or, ℤ, pos, Result, Err, refl, sym, ◌∙◌, ap, subst, inl, inr, arith}
 use Rattle.std.specs.List.{fold, All}
+use Rattle.std.specs.Ordering.{ord_max, nat_cmp, is_lt}
+use Rattle.std.specs.declared.cmp.Ordering.TheVariants.{Less, Equal, Greater}
 use Rattle.std.proofs.lemmas.List.{drop_more, take_more, length-drop, length-take, length_push, length-map, map-append, get_or-map, get_or-take}
 use Rattle.std.proofs.lemmas.List.Sums.{prefix_len_is}
-use Rattle.std.proofs.lemmas.Bool.{and_parts, leb-true, cases_lt}
+use Rattle.std.proofs.lemmas.Bool.{and_parts, leb-true, ltb-true, ltb-false, cases_lt}
 use Rattle.std.proofs.lemmas.Bool.Decides.{nat_tests}
+use Rattle.std.proofs.lemmas.Int.{ints}
+use Rattle.lop_desk.specs.Number.{whole_value}
+use Rattle.lop_model.specs.declared.weights.TheConstants.{MAX_OBJECTS}
 use Rattle.lop_lolib.specs.declared.number.TheConstants.{MAX_DECIMALS, MAX_NUMBER}
 use Rattle.lop_lolib.specs.Number.{is_decimal_word, decimal_count, digits_of}
 use Rattle.lop_lolib.specs.Units.{most_decimals}
 use Rattle.lop_lolib.specs.Numbers.{AreNumbers}
-use Rattle.lop_lolib.specs.Reading.{rows_reading, units_reading, is_entry_word, entry_refusal, entry_count, IsRefusal}
+use Rattle.lop_lolib.specs.Words.{is_bounded_whole}
+use Rattle.lop_lolib.specs.Reading.{words_reading, size_reading, rows_reading, units_reading, is_entry_word, entry_refusal, entry_count, IsRefusal}
 use Rattle.lop_lolib.specs.declared.lolib.LolibFile.{LolibFile}
 use Rattle.lop_lolib.specs.declared.refusal.LolibRefusal.{LolibRefusal}
 use Rattle.lop_lolib.specs.declared.refusal.LolibRefusal.TheVariants.{Empty, BadSize, SizeRange, BadEntry, TooFine, TooWide, Short, TooHeavy, Memory}
@@ -62,6 +68,15 @@ is_less a b less = grind (arith, nat_tests)
 
 is_not_less : (a b : ℕ) → b ≤ a → nat_lt a b ≡ false
 is_not_less a b other = grind (arith, nat_tests)
+
+-- what `max` answers
+pub greater-is : (a b : ℕ) → ord_max nat_cmp a b ≡ max a b
+greater-is a b = by (nat_lt b a) (b == a) refl
+  where
+    by : (t u : Bool) → nat_lt b a ≡ t → cond (is_lt (cond t Less (cond u Equal Greater))) a b ≡ max a b
+    by true u less = let below : b < a = ltb-true b a less in omega arith
+    by false true other = let upto : a ≤ b = ltb-false b a other in omega arith
+    by false false other = let upto : a ≤ b = ltb-false b a other in omega arith
 
 module _ (words left others : List (List ℕ)) (digits : List ℤ) (decimals : List ℕ) (most : ℕ) (word : List ℕ) (so_far : AreFirstEntries words left digits decimals most) (next : left ≡ word ∷ others) where
   left_is : word ∷ others ≡ drop (length digits) words
@@ -155,9 +170,9 @@ module _ (words left : List (List ℕ)) (digits : List ℤ) (decimals : List ℕ
       values = valued;
       counts = counted;
       greatest = greatest_is;
-      fine = omega (arith, greatest_is, greatest-within MAX_DECIMALS 0 (map decimal_count front) (omega arith) (λ k d below. let within : k < n * n = omega (arith, many, length-map front decimal_count) in omega (arith, get_or-map decimal_count front k [] d (omega (arith, many)), (entry-parts _ (entry k within)).0)));
+      fine = omega (arith, greatest_is, greatest-within MAX_DECIMALS 0 (map decimal_count front) (omega arith) (λ k d below. let within : k < n * n = omega (arith, many, length-map front decimal_count) in omega (arith, get_or-map decimal_count front k [] d (omega (arith, many)), (entry-parts (get_or front k []) (entry k within)).0)));
       coarser = λ k d below. omega (arith, greatest_is, ap (λ (l : List ℕ). get_or l k d) counted, greatest-each 0 (map decimal_count front) k d (omega (arith, ap length counted)));
-      narrow = λ k d below. let within : k < n * n = omega (arith, full) in omega (arith, ap (λ (l : List ℤ). nat_abs (get_or l k d)) valued, ap nat_abs (get_or-map digits_of front k [] d (omega (arith, many))), (entry-parts _ (entry k within)).1);
+      narrow = λ k d below. let within : k < n * n = omega (arith, full) in omega (arith, ap (λ (l : List ℤ). nat_abs (get_or l k d)) valued, ap nat_abs (get_or-map digits_of front k [] d (omega (arith, many))), (entry-parts (get_or front k []) (entry k within)).1);
     }
 
     pub rows_reading-all : rows_reading n words ≡ units_reading n most front (length left)
@@ -170,3 +185,15 @@ module _ (words left : List (List ℕ)) (digits : List ℤ) (decimals : List ℕ
         ∙ ap (λ (t : Bool). rows_with n words false t) enough
         ∙ ap (λ (k : ℕ). units_reading n k front (length words - n * n)) (sym greatest_is)
         ∙ ap (λ (k : ℕ). units_reading n most front k) tail
+
+not_less : (x y : ℤ) → y ≤ℤ x → int_lt x y ≡ false
+not_less x y le = grind (arith, ints)
+
+-- a first word that is a number of objects
+pub words_reading-size : (position : ℕ) (words others : List (List ℕ)) (word : List ℕ) (n : ℤ) → words ≡ word ∷ others → is_bounded_whole word ≡ true → n ≡ whole_value word → pos 1 ≤ℤ n → n ≤ℤ pos MAX_OBJECTS → words_reading position words ≡ rows_reading (nat_abs n) others
+words_reading-size position words others word n split whole is low high =
+    ap (words_reading position) split
+    ∙ ap (λ (t : Bool). cond t (size_reading (whole_value word) others) (Err (BadSize position))) whole
+    ∙ ap (λ (z : ℤ). size_reading z others) (sym is)
+    ∙ ap (λ (t : Bool). cond (t || int_lt (pos MAX_OBJECTS) n) (Err (SizeRange n)) (rows_reading (nat_abs n) others)) (not_less n (pos 1) low)
+    ∙ ap (λ (t : Bool). cond t (Err (SizeRange n)) (rows_reading (nat_abs n) others)) (not_less (pos MAX_OBJECTS) n high)

@@ -216,12 +216,13 @@ word_sign (b ∷ bs) is = plus (b == 43) refl is
         let no_point : is_point b ≡ false = ne_eqb b 46 (λ (f : b ≡ 46). absurd (omega arith)) in
         let no_minus : (b == 45) ≡ false = ne_eqb b 45 (λ (f : b ≡ 45). absurd (omega arith)) in
         let parts = point-behind b bs no_point in
-        let w = without_point bs in
-        (parts.1,
-            ap whole_value parts.0
-            ∙ ap (λ (t : Bool). cond t (neg_ℤ (pos (digits_value w))) (pos (digits_value (cond (b == 43) w (cond t w (b ∷ w)))))) no_minus
-            ∙ ap (λ (t : Bool). pos (digits_value (cond t w (b ∷ w)))) e
-            ∙ sym (ap (λ (t : Bool). signed t (digits_value w)) no_minus))
+        let w = without_point bs in (
+          parts.1,
+          ap whole_value parts.0
+              ∙ ap (λ (t : Bool). cond t (neg_ℤ (pos (digits_value w))) (pos (digits_value (cond (b == 43) w (cond t w (b ∷ w)))))) no_minus
+              ∙ ap (λ (t : Bool). pos (digits_value (cond t w (b ∷ w)))) e
+              ∙ sym (ap (λ (t : Bool). signed t (digits_value w)) no_minus),
+        )
     plus false e digits = minus (b == 45) e refl digits
 
 signed-abs : (t : Bool) (v : ℕ) → nat_abs (signed t v) ≡ v

@@ -45,4 +45,4 @@ pub whole-entry : (word : List ℕ) → is_bounded_whole word ≡ true → is_en
 whole-entry word is =
     let parts = and_parts (is_whole_word word) (nat_le (nat_abs (whole_value word)) MAX_NUMBER) is in
     let number = whole-number word parts.0 in
-    and_from _ _ number.0 (and_from _ _ (le-leb _ _ (omega (arith, number.1))) (ap (λ (v : ℤ). nat_le (nat_abs v) MAX_NUMBER) number.2 ∙ parts.1))
+    and_from _ _ (and_from _ _ number.0 (le-leb _ _ (omega (arith, number.1)))) (ap (λ (v : ℤ). nat_le (nat_abs v) MAX_NUMBER) number.2 ∙ parts.1)

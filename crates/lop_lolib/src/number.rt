@@ -84,8 +84,8 @@ struct Number {
 fn unsigned_number(bytes: &[u8]) -> Option<Number>
     ensures { MatchOption result (is_digit_word (without_point bytes.now) ≡ false)
         (λ number. (is_digit_word (without_point bytes.now) ≡ true)
-            × (number.value ≡ min (MAX_NUMBER + 1) (digits_value (without_point bytes.now)))
-            × (number.decimals ≡ decimal_count bytes.now)) }
+        × (number.value ≡ min (MAX_NUMBER + 1) (digits_value (without_point bytes.now)))
+        × (number.decimals ≡ decimal_count bytes.now)) }
 {
     let whole = digits_in(bytes, 0);
     if whole.len == bytes.len() {

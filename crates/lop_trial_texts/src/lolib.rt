@@ -130,17 +130,53 @@ const WORDS: &[(&str, NumberWord)] = &[
     ("1.2.3", NumberWord::Not),
     ("1e5", NumberWord::Not),
     ("1.1234567x", NumberWord::Not),
-    ("5.", NumberWord::Good { digits: 5, decimals: 0 }),
-    (".5", NumberWord::Good { digits: 5, decimals: 1 }),
-    ("-.5", NumberWord::Good { digits: -5, decimals: 1 }),
-    ("-0.50", NumberWord::Good { digits: -50, decimals: 2 }),
+    (
+        "5.",
+        NumberWord::Good {
+            digits: 5,
+            decimals: 0,
+        },
+    ),
+    (
+        ".5",
+        NumberWord::Good {
+            digits: 5,
+            decimals: 1,
+        },
+    ),
+    (
+        "-.5",
+        NumberWord::Good {
+            digits: -5,
+            decimals: 1,
+        },
+    ),
+    (
+        "-0.50",
+        NumberWord::Good {
+            digits: -50,
+            decimals: 2,
+        },
+    ),
     ("0.0000001", NumberWord::TooFine),
     ("1000000000000000001.0000000", NumberWord::TooFine),
     ("1000000000000000001", NumberWord::TooWide),
     ("-1000000000000000000.1", NumberWord::TooWide),
     ("99999999999999999999999999.5", NumberWord::TooWide),
-    ("1000000000000000000", NumberWord::Good { digits: WIDE, decimals: 0 }),
-    ("-1000000000000.000000", NumberWord::Good { digits: -WIDE, decimals: 6 }),
+    (
+        "1000000000000000000",
+        NumberWord::Good {
+            digits: WIDE,
+            decimals: 0,
+        },
+    ),
+    (
+        "-1000000000000.000000",
+        NumberWord::Good {
+            digits: -WIDE,
+            decimals: 6,
+        },
+    ),
 ];
 
 #[test]
@@ -175,10 +211,7 @@ const REFUSED: &[(&str, LolibRefusal)] = &[
     ("2\n0 1000000000000000000\n.5 1.2.3\n", BadEntry(3)),
     ("1.0\n0\n", BadSize(0)),
     ("1.5\n1\n0", BadSize(0)),
-    (
-        "2\n0 .5\n1000000000000000000 0\n",
-        TooWide(2),
-    ),
+    ("2\n0 .5\n1000000000000000000 0\n", TooWide(2)),
     (
         "2\n0 50000000000000000.1\n50000000000000000 0",
         TooHeavy(1_000_000_000_000_000_001),

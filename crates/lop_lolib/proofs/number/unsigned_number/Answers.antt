@@ -13,11 +13,10 @@ pub returns-then-whole-bytes : goal.returns-then-whole-bytes
 returns-then-whole-bytes c =
     let bytes = c.args.bytes.now in
     let whole = c.digits_in-whole in
-    let plain = plain-digits bytes whole.result.len whole.ensures.len c.if-whole-bytes.true in
-    (
-        ap is_digit_word plain.0 ∙ digit_word-is bytes (omega arith) plain.2,
-        whole.ensures.value ∙ ap (λ (l : List ℕ). min (MAX_NUMBER + 1) (value_from 0 l)) (take_all whole.result.len bytes (omega arith) ∙ sym plain.0),
-        sym plain.1,
+    let plain = plain-digits bytes whole.result.len whole.ensures.len c.if-whole-bytes.true in (
+      ap is_digit_word plain.0 ∙ digit_word-is bytes (omega arith) plain.2,
+      whole.ensures.value ∙ ap (λ (l : List ℕ). min (MAX_NUMBER + 1) (value_from 0 l)) (take_all whole.result.len bytes (omega arith) ∙ sym plain.0),
+      sym plain.1,
     )
 
 pub returns-then-bytes-whole-ne46 : goal.returns-then-bytes-whole-ne46
@@ -56,14 +55,13 @@ returns c =
     let all : fraction.result.len ≡ length rest = omega (arith, fraction.ensures.within, c.if-fraction-rest.false, ap length whole_rest, length-drop (len + 1) bytes) in
     let digits : all_digits (front ++ rest) ≡ true = all_digits-append front rest ∙ and_from _ _ (front-digits bytes len whole.ensures.len) (all_digits-run rest (sym run ∙ all)) in
     let some : 0 < length (front ++ rest) = omega (arith, length-append front rest, length-take len bytes, all) in
-    let cut : min (MAX_NUMBER + 1) whole.result.value ≡ min (MAX_NUMBER + 1) (value_from 0 front) = omega (arith, whole.ensures.value) in
-    (
-        ap is_digit_word parts.0 ∙ digit_word-is (front ++ rest) some digits,
-        fraction.ensures.value
-        ∙ ap (λ (l : List ℕ). min (MAX_NUMBER + 1) (value_from whole.result.value (take fraction.result.len l))) whole_rest
-        ∙ ap (λ (l : List ℕ). min (MAX_NUMBER + 1) (value_from whole.result.value l)) (take_all fraction.result.len rest (omega (arith, all)))
-        ∙ value_from-cut (MAX_NUMBER + 1) whole.result.value (value_from 0 front) rest cut
-        ∙ ap (λ (v : ℕ). min (MAX_NUMBER + 1) v) (sym (value_from-append 0 front rest))
-        ∙ ap (λ (l : List ℕ). min (MAX_NUMBER + 1) (value_from 0 l)) (sym parts.0),
-        all ∙ sym parts.1,
+    let cut : min (MAX_NUMBER + 1) whole.result.value ≡ min (MAX_NUMBER + 1) (value_from 0 front) = omega (arith, whole.ensures.value) in (
+      ap is_digit_word parts.0 ∙ digit_word-is (front ++ rest) some digits,
+      fraction.ensures.value
+          ∙ ap (λ (l : List ℕ). min (MAX_NUMBER + 1) (value_from whole.result.value (take fraction.result.len l))) whole_rest
+          ∙ ap (λ (l : List ℕ). min (MAX_NUMBER + 1) (value_from whole.result.value l)) (take_all fraction.result.len rest (omega (arith, all)))
+          ∙ value_from-cut (MAX_NUMBER + 1) whole.result.value (value_from 0 front) rest cut
+          ∙ ap (λ (v : ℕ). min (MAX_NUMBER + 1) v) (sym (value_from-append 0 front rest))
+          ∙ ap (λ (l : List ℕ). min (MAX_NUMBER + 1) (value_from 0 l)) (sym parts.0),
+      all ∙ sym parts.1,
     )

@@ -5,7 +5,7 @@ ghost use Rattle.lop_leaf.specs.Record.{FitTerms};
 
 use crate::by_point::order_by_point;
 use crate::choice::{Choice, Taken};
-use crate::inherited::{MOST_INHERITED, add_rows};
+use crate::inherited::add_rows;
 use crate::margins::Margins;
 use crate::pool::Pool;
 use crate::search::{find_dicycles, find_fences, find_ladders};
@@ -32,6 +32,9 @@ const MOST_LADDERS: usize = 200;
 
 /// How many violated ladders of the pool save a search for new ones.
 const ENOUGH_KEPT: usize = 32;
+
+/// A record of so many terms gets no rows beside its own.
+const MOST_INHERITED: usize = 3_584;
 
 /// How many rows leave room for the 128 that a round may add.
 const MOST_KEPT_ROWS: usize = 3_968;
@@ -248,8 +251,8 @@ impl Rounds {
             idle: i64::MAX,
             ladder_rounds: MOST_LADDER_ROUNDS,
         };
-        for _round in 0..MOST_ROUNDS {
-            match self.round(weights, fixings, pace) {
+        for round in 0..MOST_ROUNDS {
+            match self.round(weights, fixings, pace, round + 1 == MOST_ROUNDS) {
                 None => break,
                 Some(next) => pace = next,
             }
@@ -321,8 +324,14 @@ impl Rounds {
         self.keep_best(weights, climbed);
     }
 
-    /// One round. None where it was the last.
-    fn round(&mut self, weights: &Weights, fixings: &Fixings, pace: Pace) -> Option<Pace>
+    /// One round, in which the last that may be made looks for no cuts. None where it was the last.
+    fn round(
+        &mut self,
+        weights: &Weights,
+        fixings: &Fixings,
+        pace: Pace,
+        is_last: bool,
+    ) -> Option<Pace>
         requires weights { self.old.size ≡ weights.now.size }
         requires fixings { fixings.now.size ≡ weights.now.size }
         ensures { self.new.size ≡ self.old.size }
@@ -333,7 +342,7 @@ impl Rounds {
         }
         let best = pace.best.max(self.order_by_point(weights));
         let threshold = self.ascent.threshold(best);
-        if bound <= threshold {
+        if is_last || bound <= threshold {
             return None;
         }
         self.drop_rows();

@@ -1,6 +1,6 @@
 -- Entries, word by word.
 use Rattle.std.proofs.Common.{◌≡◌, ℕ, zero, suc, ◌+◌, ◌-◌, ◌*◌, ◌<◌, ◌≤◌, max, Bool, true, false, ◌&&◌, ◌==◌, cond, nat_lt, nat_le, nat_abs, ◌||◌, int_lt, ◌≤ℤ◌, List, [], ◌∷◌, ◌++◌, length, take, drop, map, get_or, ℤ, pos, Result, Err, refl, sym, ◌∙◌, ap, subst, inl, inr, arith}
-use Rattle.std.specs.List.{fold, All}
+use Rattle.std.specs.List.{fold}
 use Rattle.std.specs.Ordering.{ord_max, nat_cmp, is_lt}
 use Rattle.std.specs.declared.cmp.Ordering.TheVariants.{Less, Equal, Greater}
 use Rattle.std.proofs.lemmas.List.{drop_more, take_more, length-drop, length-take, length_push, length-map, map-append, get_or-map, get_or-take}

@@ -1,8 +1,7 @@
 -- Whole words are numbers without decimals, so a text of whole words is read in units of 1.
-use Rattle.std.proofs.Common.{◌≡◌, ℕ, zero, suc, ◌+◌, ◌-◌, ◌*◌, ◌<◌, ◌≤◌, max, Bool, true, false, ◌&&◌, ◌==◌, cond, nat_lt, nat_le, nat_abs, List, [], ◌∷◌, length, take, drop, map, get_or, ℤ, pos, refl, sym, ◌∙◌, ap, arith}
-use Rattle.std.specs.List.{fold, prefix_len}
-use Rattle.std.proofs.lemmas.Bool.{and_parts, and_from, ne_eqb, eqb-true, le-leb, leb-true}
-use Rattle.std.proofs.lemmas.List.{length-map}
+use Rattle.std.proofs.Common.{◌≡◌, ℕ, ◌+◌, Bool, true, false, ◌==◌, cond, nat_lt, nat_le, nat_abs, List, [], ◌∷◌, length, ℤ, refl, sym, ◌∙◌, ap, arith}
+use Rattle.std.specs.List.{prefix_len}
+use Rattle.std.proofs.lemmas.Bool.{and_parts, and_from, ne_eqb, eqb-true, le-leb}
 use Rattle.lop_desk.specs.Number.{is_digit, all_digits, is_digit_word, is_whole_word, unsigned_word, whole_value}
 use Rattle.lop_lolib.specs.declared.number.TheConstants.{MAX_NUMBER}
 use Rattle.lop_lolib.specs.Words.{is_bounded_whole}

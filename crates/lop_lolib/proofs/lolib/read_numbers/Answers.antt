@@ -4,7 +4,7 @@ use Rattle.std.proofs.lemmas.Result.{err_from_is_err_and}
 use Rattle.lop_lolib.specs.declared.refusal.LolibRefusal.{LolibRefusal}
 use Rattle.lop_lolib.specs.declared.refusal.LolibRefusal.TheVariants.{Short}
 use Rattle.lop_lolib.specs.Reading.{entry_refusal}
-use Rattle.lop_lolib.proofs.EntriesLemmas.{greater-is, first_entries-more, first_entries-left, first_entries-numbers, rows_reading-bad, rows_reading-short, rows_reading-all, IsRefusal-from}
+use Rattle.lop_lolib.proofs.EntriesLemmas.{greater-is, first_entries-more, first_entries-numbers, rows_reading-bad, rows_reading-short, rows_reading-all, IsRefusal-from}
 use Rattle.lop_lolib.proofs.lolib.read_numbers.Goals as goal
 
 pub returns-in_default-clause-refusal : goal.returns-in_default-clause-refusal

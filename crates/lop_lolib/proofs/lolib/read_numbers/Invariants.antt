@@ -1,4 +1,4 @@
-use Rattle.std.proofs.Common.{◌≡◌, ◌≤◌, ◌-◌, length}
+use Rattle.std.proofs.Common.{◌≤◌, ◌-◌, length}
 use Rattle.lop_lolib.specs.Words.{words_of}
 use Rattle.lop_lolib.proofs.EntriesLemmas.{AreFirstEntries}
 use Rattle.lop_lolib.proofs.lolib.read_numbers.Given as goal

@@ -1,6 +1,5 @@
-use Rattle.std.proofs.Common.{◌≡◌, ◌≤◌, nat_abs, to_z, of_z, w64, FitsSigned, arith, rules}
+use Rattle.std.proofs.Common.{w64, FitsSigned, arith, rules}
 use Rattle.std.proofs.lemmas.Int.{ints, to_z-of_z}
-use Rattle.lop_model.specs.declared.weights.TheConstants.{MAX_OBJECTS}
 use Rattle.lop_lolib.proofs.EntriesLemmas.{words_reading-size}
 use Rattle.lop_lolib.proofs.lolib.read_size.Goals as goal
 

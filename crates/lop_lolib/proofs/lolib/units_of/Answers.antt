@@ -1,5 +1,5 @@
-use Rattle.std.proofs.Common.{◌≡◌, ◌∙◌, ◌-◌, ◌*◌, ◌^◌, ◌<◌, ◌≤◌, ℤ, pos, unsigned_abs, FitsSigned, to_z, of_z, ap, arith, rules}
-use Rattle.std.specs.Int.{w128, int_pow}
+use Rattle.std.proofs.Common.{◌≡◌, ◌-◌, ◌^◌, ◌≤◌, pos, unsigned_abs, FitsSigned, to_z, of_z, ap, arith}
+use Rattle.std.specs.Int.{w128}
 use Rattle.std.proofs.lemmas.Int.{ints, to_z-of_z, fits_signed_mul, fits_signed_from_abs}
 use Rattle.lop_lolib.proofs.UnitsLemmas.{power-within}
 use Rattle.lop_lolib.proofs.lolib.units_of.Goals as goal

@@ -1,9 +1,7 @@
-use Rattle.std.proofs.Common.{◌≡◌, ℕ, ◌+◌, ◌-◌, ◌*◌, ◌<◌, ◌≤◌, false, true, min, take, get_or, length, sym, ◌∙◌, ap, subst, inl, inr, arith}
+use Rattle.std.proofs.Common.{◌≡◌, ℕ, false, true, get_or, length, sym, subst, inl, inr, arith}
 use Rattle.std.proofs.lemmas.Bool.{cases_lt}
-use Rattle.std.proofs.lemmas.List.{take_all}
 use Rattle.std.proofs.lemmas.List.Sums.{prefix_len_is}
-use Rattle.lop_desk.specs.Number.{is_digit, value_from}
-use Rattle.lop_lolib.specs.declared.number.TheConstants.{MAX_NUMBER}
+use Rattle.lop_desk.specs.Number.{is_digit}
 use Rattle.lop_lolib.proofs.NumberLemmas.{digit-in, digit-low, digit-high, value_from-more}
 use Rattle.lop_lolib.proofs.number.digits_in.Goals as goal
 use Rattle.lop_lolib.proofs.number.digits_in.Goals.{then-byte-lt48-via-then-byte-lt48, then-byte-lt48-via-else-byte-lt48+then-byte-gt57}

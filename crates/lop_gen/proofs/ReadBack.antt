@@ -19,7 +19,7 @@ use Rattle.lop_lolib.specs.Units.{most_decimals}
 use Rattle.lop_lolib.specs.Reading.{lolib_reading, titled, body_reading, words_reading, size_reading, rows_reading, is_entry_word}
 use Rattle.lop_lolib.specs.declared.refusal.LolibRefusal.TheVariants.{SizeRange, TooHeavy, BadSize}
 use Rattle.lop_lolib.proofs.WordsLemmas.{words_of-separator, words_of-word_alone}
-use Rattle.lop_lolib.proofs.EntriesLemmas.{AreFirstEntries, entry-parts, first_entries-numbers, rows_reading-all}
+use Rattle.lop_lolib.proofs.EntriesLemmas.{AreFirstEntries, first_entries-numbers, rows_reading-all}
 use Rattle.lop_lolib.proofs.UnitsLemmas.{units-whole, units_reading-narrow}
 use Rattle.lop_lolib.proofs.WholeLemmas.{whole-number as whole_is_number, whole-entry}
 use Rattle.lop_gen.specs.Text.{row_line, lolib_text, plain_file, HasNarrowDiagonal}

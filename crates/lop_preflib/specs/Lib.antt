@@ -1,7 +1,8 @@
 pub mod Text
 pub mod First
 pub mod Line
-pub mod Items
+pub mod Groups
+pub mod Pieces
 pub mod Kind
 pub mod Names
 pub mod Profile

@@ -72,8 +72,8 @@ abbrev pub is_comma : ℕ → Bool
 is_comma b = b == 44
 
 -- the pieces between commas, each trimmed
-abbrev pub items_in : List ℕ → List (List ℕ)
-items_in text = map trim (slice_split is_comma text)
+abbrev pub pieces_in : List ℕ → List (List ℕ)
+pieces_in text = map trim (slice_split is_comma text)
 
 -- the object that an item ranks: alternatives count from 1, objects from 0
 abbrev pub object_of : List ℕ → ℕ

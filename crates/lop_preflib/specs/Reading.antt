@@ -5,7 +5,8 @@ use Rattle.std.specs.Option.{option_map, unwrap_or}
 use Rattle.lop_desk.specs.Number.{digits_value}
 use Rattle.lop_preflib.specs.First.{first_answer}
 use Rattle.lop_preflib.specs.Text.{lines_of}
-use Rattle.lop_preflib.specs.Line.{size_word_of, name_for, is_order_line, count_word, list_text, items_in, object_of}
+use Rattle.lop_preflib.specs.Line.{size_word_of, name_for, is_order_line, count_word, list_text, pieces_in, object_of}
+use Rattle.lop_preflib.specs.Groups.{item_of, groups_in}
 use Rattle.lop_preflib.specs.Profile.{CountedOrder, ProfileFields, votes}
 use Rattle.lop_preflib.specs.Refusal.{line_refusal}
 use Rattle.lop_preflib.specs.declared.refusal.PrefRefusal.{PrefRefusal}
@@ -19,9 +20,13 @@ size_in lines = option_map digits_value (first_answer size_word_of lines)
 abbrev pub name_in : List (List ℕ) → ℕ → List ℕ
 name_in lines number = unwrap_or (first_answer (name_for number) lines) []
 
--- the count and the objects of an order line
+-- a count, and the objects of the items in these pieces with their group numbers
+abbrev pub order_in_pieces : ℕ → List (List ℕ) → CountedOrder
+order_in_pieces count pieces = record { count = count; ranked = map object_of (map item_of pieces); groups = groups_in pieces }
+
+-- the order of an order line
 abbrev pub order_of : List ℕ → CountedOrder
-order_of line = record { count = digits_value (count_word line); ranked = map object_of (items_in (list_text line)) }
+order_of line = order_in_pieces (digits_value (count_word line)) (pieces_in (list_text line))
 
 -- the orders of all order lines
 abbrev pub orders_in : List (List ℕ) → List CountedOrder

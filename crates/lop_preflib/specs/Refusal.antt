@@ -1,10 +1,11 @@
 -- Why a line is refused.
-use Rattle.std.specs.Prelude.{ℕ, ◌+◌, ◌^◌, Bool, not, ◌||◌, ◌==◌, nat_lt, List, [], length, take, slice_index_or, Option, None, Some, if◌then◌else◌}
+use Rattle.std.specs.Prelude.{ℕ, ◌+◌, Bool, not, ◌==◌, nat_lt, List, [], length, take, map, slice_index_or, Option, None, Some, if◌then◌else◌}
 use Rattle.std.specs.List.{list_any, range_with_len}
 use Rattle.lop_desk.specs.Number.{digits_value}
 use Rattle.lop_preflib.specs.First.{or_else, first_answer}
 use Rattle.lop_preflib.specs.Text.{is_number_to}
-use Rattle.lop_preflib.specs.Line.{size_word_of, is_order_line, has_colon, count_word, list_text, items_in}
+use Rattle.lop_preflib.specs.Line.{size_word_of, is_order_line, has_colon, count_word, list_text, pieces_in}
+use Rattle.lop_preflib.specs.Groups.{item_of, are_bad_ties}
 use Rattle.lop_preflib.specs.declared.refusal.PrefRefusal.{PrefRefusal}
 use Rattle.lop_preflib.specs.declared.refusal.PrefRefusal.TheVariants.{NoSize, SizeRange, BadLine, BadCount, Ties, BadAlternative, Repeated, TooMany}
 use Rattle.lop_preflib.specs.declared.profile.TheConstants.{MAX_ALTERNATIVES, MAX_VOTERS}
@@ -28,17 +29,13 @@ items_refusal n line items = first_answer (item_refusal n line items) (range_wit
 abbrev pub votes_refusal : ℕ → ℕ → Option PrefRefusal
 votes_refusal line voters = if nat_lt MAX_VOTERS voters then Some (TooMany line) else None
 
--- `{` (123) or `}` (125)
-abbrev pub is_brace : ℕ → Bool
-is_brace b = b == 123 || b == 125
-
 -- an order line, where n is known and so many voters came before
 abbrev pub order_refusal : ℕ → ℕ → ℕ → List ℕ → Option PrefRefusal
 order_refusal n voters line text =
     if not (has_colon text) then Some (BadLine line)
     else if not (is_number_to MAX_VOTERS (count_word text)) then Some (BadCount line)
-    else if list_any is_brace (list_text text) then Some (Ties line)
-    else or_else (items_refusal n line (items_in (list_text text))) (votes_refusal line (voters + digits_value (count_word text)))
+    else if are_bad_ties (pieces_in (list_text text)) then Some (Ties line)
+    else or_else (items_refusal n line (map item_of (pieces_in (list_text text)))) (votes_refusal line (voters + digits_value (count_word text)))
 
 -- an order line, where the number of alternatives is known or isn't
 abbrev pub sized_refusal : Option ℕ → ℕ → ℕ → List ℕ → Option PrefRefusal

@@ -18,11 +18,12 @@ abbrev pub IsStop : Option PrefRefusal → PrefRefusal → Type 0
 IsStop found Memory = Unit {0}
 IsStop found refusal = found ≡ Some refusal
 
--- an order line that isn't refused, with its count and its objects
-pub record IsOrderRead (line : List ℕ) (n voters number count : ℕ) (ranked : List ℕ) : Type 0 where
+-- an order line that isn't refused, with its count, its objects and their group numbers
+pub record IsOrderRead (line : List ℕ) (n voters number count : ℕ) (ranked groups : List ℕ) : Type 0 where
   pub good : order_refusal n voters number line ≡ None
   pub count_is : count ≡ (order_of line).count
   pub ranked_is : ranked ≡ (order_of line).ranked
+  pub groups_are : groups ≡ (order_of line).groups
   pub few : voters + count ≤ MAX_VOTERS
 
 -- a line that isn't refused is gathered

@@ -14,6 +14,7 @@ use crate::names::Names;
 use crate::order::read_order;
 use crate::orders::Orders;
 use crate::profile::{MAX_ALTERNATIVES, Profile};
+use crate::ranking::Ranking;
 use crate::refusal::PrefRefusal;
 use crate::text::number_up_to;
 use std::alloc::Global;
@@ -24,8 +25,8 @@ pub(crate) struct Gathered {
     pub(crate) size: Option<u16>,
     pub(crate) names: Names,
     pub(crate) orders: Orders,
-    // The objects of one order.
-    pub(crate) ranked: Vec<u16>,
+    // What one order ranks.
+    pub(crate) ranking: Ranking,
 }
 
 impl Gathered {
@@ -38,7 +39,7 @@ impl Gathered {
             size: None,
             names: Names::new(alloc),
             orders: Orders::new(alloc),
-            ranked: Vec::new(alloc),
+            ranking: Ranking::new(alloc),
         }
     }
 
@@ -52,7 +53,7 @@ impl Gathered {
         match kind_of(line) {
             Line::Size(word) => self.size = size_after(self.size, word, number)?,
             Line::Name(object, name) => self.names.note(alloc, object, name)?,
-            Line::Order => add_order(&mut self.orders, &mut self.ranked, self.size, line, number)?,
+            Line::Order => add_order(&mut self.orders, &mut self.ranking, self.size, line, number)?,
             Line::Other => {}
         }
         Ok(())
@@ -94,7 +95,7 @@ fn size_after(size: Option<u16>, word: &[u8], number: u64) -> Result<Option<u16>
 // Adds the order of a line.
 fn add_order(
     orders: &mut Orders,
-    ranked: &mut Vec<u16>,
+    ranking: &mut Ranking,
     size: Option<u16>,
     line: &[u8],
     number: u64,
@@ -107,7 +108,7 @@ fn add_order(
     let Some(n) = size else {
         return Err(PrefRefusal::NoSize(number));
     };
-    let count = read_order(line, n, orders.voters(), number, ranked)?;
-    orders.push(count, ranked)?;
+    let count = read_order(line, n, orders.voters(), number, ranking)?;
+    orders.push(count, &ranking.objects, &ranking.groups)?;
     Ok(())
 }

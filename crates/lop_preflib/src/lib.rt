@@ -2,14 +2,16 @@
 #![tactic(auto)]
 
 mod gathered;
-mod items;
+mod groups;
 mod line;
 mod lines;
 mod names;
 mod order;
 mod orders;
+mod pieces;
 mod preflib;
 mod profile;
+mod ranking;
 mod refusal;
 mod text;
 

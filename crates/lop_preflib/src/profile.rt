@@ -13,7 +13,8 @@ pub const MAX_ALTERNATIVES: u64 = 512;
 pub const MAX_VOTERS: u64 = 1_000_000_000_000_000_000;
 
 /// The orders of voters over n alternatives, n from 1 to 512, and the names of these. Objects count from 0. A
-/// contract sees n, the list of the n names, and the list of the orders, each a count and a ranked list.
+/// contract sees n, the list of the n names, and the list of the orders, each a count, a ranked list, and the group
+/// number of each of its places.
 #[derive(Drop)]
 pub struct Profile {
     size: u16,
@@ -84,5 +85,13 @@ impl Profile {
         ensures { result.now ≡ (order_at self.now.orders index).ranked }
     {
         self.orders.ranked(index)
+    }
+
+    /// The group number, from 0, of each object that an order ranks. Objects of one group are tied.
+    pub fn group_of(&self, index: usize) -> &[u16]
+        requires { index < length self.now.orders }
+        ensures { result.now ≡ (order_at self.now.orders index).groups }
+    {
+        self.orders.group_of(index)
     }
 }

@@ -15,7 +15,8 @@ pub enum PrefRefusal {
     BadLine(u64),
     /// The count of an order isn't a number from 1 to 10^18.
     BadCount(u64),
-    /// An order has a brace.
+    /// The braces of an order make no groups: a group is opened within another, closed where none is open, or not
+    /// closed, or a brace stands within an item.
     Ties(u64),
     /// An item of an order isn't the number of an alternative.
     BadAlternative(u64),

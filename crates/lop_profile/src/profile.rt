@@ -1,7 +1,8 @@
 // The weights of a profile.
-ghost use Rattle.std.specs.Prelude.{◌≡◌, ◌≢◌, ℕ, ℤ, ◌+◌, ◌*◌, ◌<◌, ◌≤◌, ◌^◌, All, Ok, length, map, slice_index, pos, IfOk, IfErr};
+ghost use Rattle.std.specs.Prelude.{◌≡◌, ◌≢◌, ℕ, ℤ, ◌+◌, ◌*◌, ◌<◌, ◌≤◌, All, Ok, length, map, slice_index, pos, IfOk, IfErr};
 ghost use Rattle.lop_model.specs.declared.weights.WeightsFault.TheVariants.{Size, TooHeavy as Heavy};
 ghost use Rattle.lop_preflib.specs.Profile.{votes, order_at};
+ghost use Rattle.lop_preflib.specs.declared.profile.TheConstants.{MAX_VOTERS};
 ghost use Rattle.lop_profile.specs.Preference.{order_preference};
 ghost use Rattle.lop_profile.specs.Reading.{profile_reading, IsFault};
 ghost use Rattle.lop_profile.specs.declared.profile.ProfileFault.TheVariants.{TooHeavy, Memory};
@@ -36,8 +37,8 @@ impl From<AllocFailed<i64>> for ProfileFault {
     }
 }
 
-/// The preference matrix: how many voters rank the object of the row before that of the column. One pass over the
-/// orders, with k² / 2 additions for an order of k objects.
+/// The preference matrix: how many voters rank the object of the row before that of the column, in an earlier group.
+/// One pass over the orders, with at most k² / 2 additions and as many comparisons for an order of k objects.
 pub fn pair_weights(alloc: Global, profile: &Profile) -> Result<Weights, ProfileFault>
     ensures weights { IfOk result (λ weights. profile_reading profile.now ≡ Ok weights) }
     ensures fault { IfErr result (IsFault (profile_reading profile.now)) }
@@ -60,12 +61,13 @@ pub fn pair_weights(alloc: Global, profile: &Profile) -> Result<Weights, Profile
 fn count_order(cells: &mut [u64], profile: &Profile, index: usize)
     requires index { index < length profile.now.orders }
     requires square { length cells.old ≡ profile.now.size * profile.now.size }
-    requires small { All (λ cell. cell + (order_at profile.now.orders index).count ≤ 10 ^ 18) cells.old }
+    requires small { All (λ cell. cell + (order_at profile.now.orders index).count ≤ MAX_VOTERS) cells.old }
     ensures { (i j : ℕ) → i < profile.now.size → j < profile.now.size → slice_index cells.new (i * profile.now.size + j) ≡ slice_index cells.old (i * profile.now.size + j) + order_preference i j (order_at profile.now.orders index) }
 {
     let n = profile.n() as usize;
     let ranked = profile.ranked(index);
-    add_order(cells, n, profile.count(index), ranked);
+    let groups = profile.group_of(index);
+    add_order(cells, n, profile.count(index), ranked, groups);
 }
 
 // What weights that are too heavy say of a profile.
@@ -81,7 +83,7 @@ fn too_heavy(fault: WeightsFault) -> ProfileFault
 
 // The cells as entries.
 fn signed(alloc: Global, cells: &[u64]) -> Result<Vec<i64>, ProfileFault>
-    requires { All (λ cell. cell ≤ 10 ^ 18) cells.now }
+    requires { All (λ cell. cell ≤ MAX_VOTERS) cells.now }
     ensures entries { IfOk result (λ entries. entries.items ≡ map pos cells.now) }
     ensures fault { IfErr result (λ fault. fault ≡ Memory) }
 {

@@ -1,16 +1,20 @@
 // Texts that are read, and texts that are refused.
 use lop_preflib::{PrefRefusal, read_preflib};
+use lop_profile::pair_weights;
 use std::alloc::Global;
 use std::process::Abort;
 use std::test::Fail;
 
-// The text holds these names, and orders with these counts and ranked objects.
+// A count, ranked objects, and the group number of each.
+type Held<'a> = (u64, &'a [u16], &'a [u16]);
+
+// The text holds these names and orders.
 fn holds(
     rt: &impl Abort,
     alloc: Global,
     text: &[u8],
     names: &[&[u8]],
-    orders: &[(u64, &[u16])],
+    orders: &[Held<'_>],
 ) -> Result<(), Fail> {
     let profile = read_preflib(alloc, text)?;
     assert_eq!(rt; profile.n() as usize, names.len());
@@ -21,6 +25,7 @@ fn holds(
     for (index, order) in orders.iter().enumerate() {
         assert_eq!(rt; profile.count(index), order.0);
         assert_eq!(rt; profile.ranked(index), order.1);
+        assert_eq!(rt; profile.group_of(index), order.2);
     }
     Ok(())
 }
@@ -30,7 +35,11 @@ fn a_lunch_profile(rt: HostRuntime) -> Result<(), Fail> {
     let text =
         b"# FILE NAME: lunch.soc\n# NUMBER ALTERNATIVES: 3\n# NUMBER VOTERS: 9\n# ALTERNATIVE NAME 1: Soup\n# ALTERNATIVE NAME 2: Rice\n# ALTERNATIVE NAME 3: Fish\n4: 1,2,3\n3: 2,3,1\n2: 3,1,2\n";
     let names: [&[u8]; 3] = [b"Soup", b"Rice", b"Fish"];
-    let orders: [(u64, &[u16]); 3] = [(4, &[0, 1, 2]), (3, &[1, 2, 0]), (2, &[2, 0, 1])];
+    let orders: [Held<'_>; 3] = [
+        (4, &[0, 1, 2], &[0, 1, 2]),
+        (3, &[1, 2, 0], &[0, 1, 2]),
+        (2, &[2, 0, 1], &[0, 1, 2]),
+    ];
     holds(&rt, rt.alloc(), text, &names, &orders)
 }
 
@@ -47,7 +56,7 @@ fn names_kept(rt: HostRuntime) -> Result<(), Fail> {
         rt.alloc(),
         &text[..text.len() - 4],
         &names,
-        &[(1, &[1])],
+        &[(1, &[1], &[0])],
     )
 }
 
@@ -62,7 +71,55 @@ fn loose_lines(rt: HostRuntime) -> Result<(), Fail> {
         rt.alloc(),
         text,
         &names,
-        &[(1_000_000_000_000_000_000, &[1, 0])],
+        &[(1_000_000_000_000_000_000, &[1, 0], &[0, 1])],
+    )
+}
+
+// Ties: at the end, of one, of all, in the middle with blanks and CR, and orders that leave objects out.
+#[test]
+fn ties(rt: HostRuntime) -> Result<(), Fail> {
+    let text =
+        b"# NUMBER ALTERNATIVES: 4\n1: 1,{2,3}\n2:{1}\n3: {4,3,2,1}\n4: 2 ,{ 1 , 4\t} , 3 \r\n5: { {\n";
+    let refused = read_preflib(rt.alloc(), text).err();
+    assert_eq!(rt; refused, Some(PrefRefusal::Ties(6)));
+    let names: [&[u8]; 4] = [b""; 4];
+    let orders: [Held<'_>; 4] = [
+        (1, &[0, 1, 2], &[0, 1, 1]),
+        (2, &[0], &[0]),
+        (3, &[3, 2, 1, 0], &[0, 0, 0, 0]),
+        (4, &[1, 0, 3, 2], &[0, 1, 1, 2]),
+    ];
+    holds(&rt, rt.alloc(), &text[..text.len() - 7], &names, &orders)
+}
+
+// The weights of the profile of four objects that the text holds.
+fn weighs(rt: &impl Abort, alloc: Global, text: &str, entries: [[i64; 4]; 4]) -> Result<(), Fail> {
+    let profile = read_preflib(alloc, text.as_bytes())?;
+    let weights = pair_weights(alloc, &profile)?;
+    assert_eq!(rt; weights.n(), 4);
+    for (i, row) in entries.iter().enumerate() {
+        for (j, entry) in row.iter().enumerate() {
+            assert_eq!(rt; weights.at(i as u16, j as u16), *entry, "at {i} {j}");
+        }
+    }
+    Ok(())
+}
+
+// A tied pair counts on neither side, and neither does a pair with an object that is left out.
+#[test]
+fn ties_weighed(rt: HostRuntime) -> Result<(), Fail> {
+    let alloc = rt.alloc();
+    weighs(
+        &rt,
+        alloc,
+        "# NUMBER ALTERNATIVES: 4\n1: 1,{2,3}\n",
+        [[0, 1, 1, 0], [0; 4], [0; 4], [0; 4]],
+    )?;
+    weighs(
+        &rt,
+        alloc,
+        "# NUMBER ALTERNATIVES: 4\n5: {1,2,3,4}\n7: {4},{2}\n10: {3,1},2,{4}\n",
+        [[0, 10, 0, 10], [0, 0, 0, 10], [0, 10, 0, 10], [0, 7, 0, 0]],
     )
 }
 
@@ -84,9 +141,50 @@ const REFUSED: &[(&str, PrefRefusal)] = &[
     ("# NUMBER ALTERNATIVES: 513\n1\n", PrefRefusal::SizeRange(1)),
     ("# NUMBER ALTERNATIVES: 1\n1 1\n", PrefRefusal::BadLine(2)),
     ("# NUMBER ALTERNATIVES: 1\n0: {\n", PrefRefusal::BadCount(2)),
+    // Braces that make no groups. The whole line is judged before any of its items.
     (
-        "# NUMBER ALTERNATIVES: 3\n1: 1,{2,3}\n",
+        "# NUMBER ALTERNATIVES: 3\n1: 1,{2,3\n",
         PrefRefusal::Ties(2),
+    ),
+    ("# NUMBER ALTERNATIVES: 3\n1: 1,2}\n", PrefRefusal::Ties(2)),
+    (
+        "# NUMBER ALTERNATIVES: 3\n1: {1,{2},3}\n",
+        PrefRefusal::Ties(2),
+    ),
+    (
+        "# NUMBER ALTERNATIVES: 3\n1: {{1},2\n",
+        PrefRefusal::Ties(2),
+    ),
+    (
+        "# NUMBER ALTERNATIVES: 3\n1: {1}},2\n",
+        PrefRefusal::Ties(2),
+    ),
+    ("# NUMBER ALTERNATIVES: 3\n1: 1}{2\n", PrefRefusal::Ties(2)),
+    (
+        "# NUMBER ALTERNATIVES: 3\n1: {1,2},3}\n",
+        PrefRefusal::Ties(2),
+    ),
+    (
+        "# NUMBER ALTERNATIVES: 3\n1: 9,9,{1} 2,3\n",
+        PrefRefusal::Ties(2),
+    ),
+    ("# NUMBER ALTERNATIVES: 3\n1: }\n", PrefRefusal::Ties(2)),
+    // Groups whose items are none.
+    (
+        "# NUMBER ALTERNATIVES: 3\n1: 1,{},2\n",
+        PrefRefusal::BadAlternative(2),
+    ),
+    (
+        "# NUMBER ALTERNATIVES: 3\n1: {,1}\n",
+        PrefRefusal::BadAlternative(2),
+    ),
+    (
+        "# NUMBER ALTERNATIVES: 3\n1: {1,2},{2,3}\n",
+        PrefRefusal::Repeated(2),
+    ),
+    (
+        "# NUMBER ALTERNATIVES: 3\n1: 1,{2,3}\n3: 2,3,1\n2: 3,1,1\n",
+        PrefRefusal::Repeated(4),
     ),
     (
         "# NUMBER ALTERNATIVES: 3\n1: 1,4,1\n",

@@ -8,17 +8,19 @@ use Rattle.std.proofs.lemmas.Bool.Decides.{nat_tests}
 use Rattle.lop_desk.specs.Number.{digits_value, is_digit_word}
 use Rattle.lop_preflib.specs.First.{or_else}
 use Rattle.lop_preflib.specs.Text.{is_number_to}
-use Rattle.lop_preflib.specs.Line.{has_colon, count_word, list_text, items_in, object_of, size_word_of}
+use Rattle.lop_preflib.specs.Line.{has_colon, count_word, list_text, pieces_in, object_of, size_word_of}
+use Rattle.lop_preflib.specs.Groups.{item_of, are_bad_ties}
 use Rattle.lop_preflib.specs.Names.{name_at}
 use Rattle.lop_preflib.specs.Kind.{Says, no_name}
 use Rattle.lop_preflib.specs.Profile.{IsCounted, votes}
-use Rattle.lop_preflib.specs.Refusal.{stood_before, item_refusal, items_refusal, votes_refusal, is_brace, order_refusal, sized_refusal, size_refusal}
+use Rattle.lop_preflib.specs.Refusal.{stood_before, item_refusal, items_refusal, votes_refusal, order_refusal, sized_refusal, size_refusal}
 use Rattle.lop_preflib.specs.Reading.{order_of}
 use Rattle.lop_preflib.specs.Steps.{IsGathered}
 use Rattle.lop_preflib.specs.declared.gathered.Gathered.{Gathered}
 use Rattle.lop_preflib.specs.declared.refusal.PrefRefusal.{PrefRefusal}
 use Rattle.lop_preflib.specs.declared.refusal.PrefRefusal.TheVariants.{BadLine, BadCount, Ties, BadAlternative, Repeated}
 use Rattle.lop_preflib.proofs.FirstLemmas.{or_else-none, first_below-all}
+use Rattle.lop_preflib.proofs.GroupsLemmas.{length-groups_in, first_group-in, same_or_next-in}
 
 size_refusal-none : (size : Option ℕ) (line : ℕ) → size_refusal size line None ≡ None
 size_refusal-none None line = refl
@@ -49,9 +51,9 @@ number_range most word number = by (is_digit_word word) (digits_value word) numb
     by digits value h = grind (arith, nat_tests)
 
 -- an order line that isn't refused
-order_good : (n voters line : ℕ) (text : List ℕ) → order_refusal n voters line text ≡ None → (is_number_to (10 ^ 18) (count_word text) ≡ true) × (items_refusal n line (items_in (list_text text)) ≡ None)
+order_good : (n voters line : ℕ) (text : List ℕ) → order_refusal n voters line text ≡ None → (is_number_to (10 ^ 18) (count_word text) ≡ true) × (items_refusal n line (map item_of (pieces_in (list_text text))) ≡ None)
 order_good n voters line text good =
-    by (has_colon text) (is_number_to (10 ^ 18) (count_word text)) (list_any is_brace (list_text text)) (items_refusal n line (items_in (list_text text))) good
+    by (has_colon text) (is_number_to (10 ^ 18) (count_word text)) (are_bad_ties (pieces_in (list_text text))) (items_refusal n line (map item_of (pieces_in (list_text text)))) good
   where
     by : (colon count brace : Bool) (items : Option PrefRefusal) → cond (not colon) (Some (BadLine line)) (cond (not count) (Some (BadCount line)) (cond brace (Some (Ties line)) (or_else items (votes_refusal line (voters + digits_value (count_word text)))))) ≡ None → (count ≡ true) × (items ≡ None)
     by true true false None good' = (refl, refl)
@@ -87,9 +89,12 @@ module _ (n line : ℕ) (items : List (List ℕ)) (good : items_refusal n line i
 pub IsCounted-order : (n voters line : ℕ) (text : List ℕ) → order_refusal n voters line text ≡ None → IsCounted n (order_of text)
 IsCounted-order n voters line text good =
     let parts = order_good n voters line text good in
-    let items = items_in (list_text text) in
+    let items = map item_of (pieces_in (list_text text)) in
     record {
       given = (number_range (10 ^ 18) (count_word text) parts.0).0;
       below = λ p low. objects-below n line items parts.1 p (omega (arith, low, length-map items object_of));
       distinct = λ p q before low. objects-apart n line items parts.1 p q before (omega (arith, low, length-map items object_of));
+      grouped = length-groups_in (pieces_in (list_text text));
+      first_group = first_group-in (pieces_in (list_text text));
+      same_or_next = same_or_next-in (pieces_in (list_text text));
     }

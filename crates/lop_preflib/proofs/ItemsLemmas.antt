@@ -8,20 +8,20 @@ use Rattle.std.proofs.lemmas.Bool.{cases_eq}
 use Rattle.std.proofs.lemmas.Bool.Decides.{nat_tests}
 use Rattle.lop_desk.specs.Number.{digits_value}
 use Rattle.lop_preflib.specs.Text.{trim, is_number_to}
-use Rattle.lop_preflib.specs.Line.{is_comma, items_in, object_of}
+use Rattle.lop_preflib.specs.Line.{is_comma, pieces_in, object_of}
 use Rattle.lop_preflib.specs.Refusal.{stood_before, item_refusal, items_refusal}
 use Rattle.lop_preflib.specs.declared.refusal.PrefRefusal.{PrefRefusal}
 use Rattle.lop_preflib.specs.declared.refusal.PrefRefusal.TheVariants.{BadAlternative, Repeated}
 use Rattle.lop_preflib.proofs.TextLemmas.{within_any, none_any}
 use Rattle.lop_preflib.proofs.FirstLemmas.{first_below-none, first_below-at}
 
--- an item before a comma
-pub items_in-more : (text : List ℕ) → list_any is_comma text ≡ true → items_in text ≡ trim (before_first is_comma text) ∷ items_in (after_first is_comma text)
-items_in-more text some = ap (map trim) (slice_split_first is_comma text 0 (within_any is_comma text some))
+-- a piece before a comma
+pub pieces_in-more : (text : List ℕ) → list_any is_comma text ≡ true → pieces_in text ≡ trim (before_first is_comma text) ∷ pieces_in (after_first is_comma text)
+pieces_in-more text some = ap (map trim) (slice_split_first is_comma text 0 (within_any is_comma text some))
 
--- the last item
-pub items_in-last : (text : List ℕ) → list_any is_comma text ≡ false → items_in text ≡ trim text ∷ []
-items_in-last text none = ap (map trim) (slice_split_none is_comma text (none_any is_comma text none))
+-- the last piece
+pub pieces_in-last : (text : List ℕ) → list_any is_comma text ≡ false → pieces_in text ≡ trim text ∷ []
+pieces_in-last text none = ap (map trim) (slice_split_none is_comma text (none_any is_comma text none))
 
 -- the first items are read: they are good, the objects are theirs, and which numbers stood is noted
 pub record AreRead (n line : ℕ) (items others : List (List ℕ)) (ranked : List ℕ) (seen : List Bool) : Type 0 where

@@ -2,6 +2,7 @@ pub mod TextLemmas
 pub mod DigitLemmas
 pub mod LineLemmas
 pub mod FirstLemmas
+pub mod GroupsLemmas
 pub mod ItemsLemmas
 pub mod OrderLemmas
 pub mod SpansLemmas

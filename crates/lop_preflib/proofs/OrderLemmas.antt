@@ -5,8 +5,9 @@ use Rattle.std.proofs.lemmas.Bool.{lt-ltb, le-ltb}
 use Rattle.lop_desk.specs.Number.{digits_value}
 use Rattle.lop_preflib.specs.First.{or_else}
 use Rattle.lop_preflib.specs.Text.{trim, is_number_to}
-use Rattle.lop_preflib.specs.Line.{is_colon, has_colon, count_word, list_text, items_in, object_of}
-use Rattle.lop_preflib.specs.Refusal.{items_refusal, votes_refusal, is_brace, order_refusal}
+use Rattle.lop_preflib.specs.Line.{is_colon, has_colon, count_word, list_text, pieces_in, object_of}
+use Rattle.lop_preflib.specs.Groups.{item_of, groups_in, are_bad_ties}
+use Rattle.lop_preflib.specs.Refusal.{items_refusal, votes_refusal, order_refusal}
 use Rattle.lop_preflib.specs.declared.refusal.PrefRefusal.{PrefRefusal}
 use Rattle.lop_preflib.specs.declared.refusal.PrefRefusal.TheVariants.{NoSize, SizeRange, BadLine, BadCount, Ties, BadAlternative, Repeated, TooMany, NoOrders, Memory}
 use Rattle.lop_preflib.specs.Steps.{IsStop, IsOrderRead}
@@ -14,12 +15,12 @@ use Rattle.lop_preflib.specs.Steps.{IsStop, IsOrderRead}
 module _ (n voters line : ℕ) (text : List ℕ) where
   -- what is tested behind the braces
   abbrev pub later_refusal : Option PrefRefusal
-  later_refusal = or_else (items_refusal n line (items_in (list_text text))) (votes_refusal line (voters + digits_value (count_word text)))
+  later_refusal = or_else (items_refusal n line (map item_of (pieces_in (list_text text)))) (votes_refusal line (voters + digits_value (count_word text)))
 
-  pub order_refusal-tests : (colon count brace : Bool) → has_colon text ≡ colon → is_number_to (10 ^ 18) (count_word text) ≡ count → list_any is_brace (list_text text) ≡ brace → order_refusal n voters line text ≡ cond (not colon) (Some (BadLine line)) (cond (not count) (Some (BadCount line)) (cond brace (Some (Ties line)) later_refusal))
+  pub order_refusal-tests : (colon count brace : Bool) → has_colon text ≡ colon → is_number_to (10 ^ 18) (count_word text) ≡ count → are_bad_ties (pieces_in (list_text text)) ≡ brace → order_refusal n voters line text ≡ cond (not colon) (Some (BadLine line)) (cond (not count) (Some (BadCount line)) (cond brace (Some (Ties line)) later_refusal))
   order_refusal-tests colon count brace e f g =
-      ap (λ (t : Bool). cond (not t) (Some (BadLine line)) (cond (not (is_number_to (10 ^ 18) (count_word text))) (Some (BadCount line)) (cond (list_any is_brace (list_text text)) (Some (Ties line)) later_refusal))) e
-      ∙ ap (λ (t : Bool). cond (not colon) (Some (BadLine line)) (cond (not t) (Some (BadCount line)) (cond (list_any is_brace (list_text text)) (Some (Ties line)) later_refusal))) f
+      ap (λ (t : Bool). cond (not t) (Some (BadLine line)) (cond (not (is_number_to (10 ^ 18) (count_word text))) (Some (BadCount line)) (cond (are_bad_ties (pieces_in (list_text text))) (Some (Ties line)) later_refusal))) e
+      ∙ ap (λ (t : Bool). cond (not colon) (Some (BadLine line)) (cond (not t) (Some (BadCount line)) (cond (are_bad_ties (pieces_in (list_text text))) (Some (Ties line)) later_refusal))) f
       ∙ ap (λ (t : Bool). cond (not colon) (Some (BadLine line)) (cond (not count) (Some (BadCount line)) (cond t (Some (Ties line)) later_refusal))) g
 
 -- the count and the list of an order line
@@ -39,27 +40,27 @@ module _ (n voters line : ℕ) (text word list : List ℕ) (is : IsCut text word
   same_count : (t : Bool) → is_number_to (10 ^ 18) word ≡ t → is_number_to (10 ^ 18) (count_word text) ≡ t
   same_count t e = ap (is_number_to (10 ^ 18)) (sym is.word_is) ∙ e
 
-  same_brace : (t : Bool) → list_any is_brace list ≡ t → list_any is_brace (list_text text) ≡ t
-  same_brace t e = ap (list_any is_brace) (sym is.list_is) ∙ e
+  same_brace : (t : Bool) → are_bad_ties (pieces_in list) ≡ t → are_bad_ties (pieces_in (list_text text)) ≡ t
+  same_brace t e = ap (λ (l : List ℕ). are_bad_ties (pieces_in l)) (sym is.list_is) ∙ e
 
   pub refused-count : is_number_to (10 ^ 18) word ≡ false → order_refusal n voters line text ≡ Some (BadCount line)
-  refused-count bad = order_refusal-tests n voters line text true false (list_any is_brace (list_text text)) is.colon (same_count false bad) refl
+  refused-count bad = order_refusal-tests n voters line text true false (are_bad_ties (pieces_in (list_text text))) is.colon (same_count false bad) refl
 
   module _ (number : is_number_to (10 ^ 18) word ≡ true) where
-    pub refused-ties : list_any is_brace list ≡ true → order_refusal n voters line text ≡ Some (Ties line)
+    pub refused-ties : are_bad_ties (pieces_in list) ≡ true → order_refusal n voters line text ≡ Some (Ties line)
     refused-ties brace = order_refusal-tests n voters line text true true true is.colon (same_count true number) (same_brace true brace)
 
-    module _ (none : list_any is_brace list ≡ false) where
+    module _ (none : are_bad_ties (pieces_in list) ≡ false) where
       later : order_refusal n voters line text ≡ later_refusal n voters line text
       later = order_refusal-tests n voters line text true true false is.colon (same_count true number) (same_brace false none)
 
-      items : (found : Option PrefRefusal) → items_refusal n line (items_in list) ≡ found → order_refusal n voters line text ≡ or_else found (votes_refusal line (voters + digits_value (count_word text)))
-      items found e = later ∙ ap (λ (f : Option PrefRefusal). or_else f (votes_refusal line (voters + digits_value (count_word text)))) (ap (λ (l : List ℕ). items_refusal n line (items_in l)) (sym is.list_is) ∙ e)
+      items : (found : Option PrefRefusal) → items_refusal n line (map item_of (pieces_in list)) ≡ found → order_refusal n voters line text ≡ or_else found (votes_refusal line (voters + digits_value (count_word text)))
+      items found e = later ∙ ap (λ (f : Option PrefRefusal). or_else f (votes_refusal line (voters + digits_value (count_word text)))) (ap (λ (l : List ℕ). items_refusal n line (map item_of (pieces_in l))) (sym is.list_is) ∙ e)
 
-      pub refused-items : (refusal : PrefRefusal) → items_refusal n line (items_in list) ≡ Some refusal → order_refusal n voters line text ≡ Some refusal
+      pub refused-items : (refusal : PrefRefusal) → items_refusal n line (map item_of (pieces_in list)) ≡ Some refusal → order_refusal n voters line text ≡ Some refusal
       refused-items refusal e = items (Some refusal) e
 
-      module _ (count : ℕ) (count_is : count ≡ digits_value word) (good : items_refusal n line (items_in list) ≡ None) where
+      module _ (count : ℕ) (count_is : count ≡ digits_value word) (good : items_refusal n line (map item_of (pieces_in list)) ≡ None) where
         votes_test : (t : Bool) → ltb (10 ^ 18) (voters + count) ≡ t → order_refusal n voters line text ≡ cond t (Some (TooMany line)) None
         votes_test t e =
             items None good
@@ -69,11 +70,12 @@ module _ (n voters line : ℕ) (text word list : List ℕ) (is : IsCut text word
         pub refused-votes : 10 ^ 18 < voters + count → order_refusal n voters line text ≡ Some (TooMany line)
         refused-votes many = votes_test true (lt-ltb (10 ^ 18) (voters + count) many)
 
-        pub order_read : (ranked : List ℕ) → ranked ≡ map object_of (items_in list) → voters + count ≤ 10 ^ 18 → IsOrderRead text n voters line count ranked
-        order_read ranked ranked_of few = record {
+        pub order_read : (ranked groups : List ℕ) → ranked ≡ map object_of (map item_of (pieces_in list)) → groups ≡ groups_in (pieces_in list) → voters + count ≤ 10 ^ 18 → IsOrderRead text n voters line count ranked groups
+        order_read ranked groups ranked_of groups_of few = record {
           good = votes_test false (le-ltb (10 ^ 18) (voters + count) few);
           count_is = count_is ∙ ap digits_value is.word_is;
-          ranked_is = ranked_of ∙ ap (λ (l : List ℕ). map object_of (items_in l)) is.list_is;
+          ranked_is = ranked_of ∙ ap (λ (l : List ℕ). map object_of (map item_of (pieces_in l))) is.list_is;
+          groups_are = groups_of ∙ ap (λ (l : List ℕ). groups_in (pieces_in l)) is.list_is;
           few = few;
         }
 

@@ -51,6 +51,9 @@ IsCounted-more m n order more counted = record {
   given = counted.given;
   below = λ p low. omega (arith, more, counted.below p low);
   distinct = counted.distinct;
+  grouped = counted.grouped;
+  first_group = counted.first_group;
+  same_or_next = counted.same_or_next;
 }
 
 size_grows : (size : Option ℕ) (word : Option ℕ) → unwrap_or size 0 ≤ unwrap_or (or_else size word) 0

@@ -54,7 +54,7 @@ ends_at pieces place = not (is_open (take (place + 1) pieces))
 
 -- the number of the group of the piece at this place, from 0: so many groups end before it
 abbrev pub group_at : List (List ℕ) → ℕ → ℕ
-group_at pieces place = count_by (ends_at pieces) (range_with_len 0 place)
+group_at pieces place = count_by (λ ended. ended) (map (ends_at pieces) (range_with_len 0 place))
 
 -- the group numbers of all pieces
 abbrev pub groups_in : List (List ℕ) → List ℕ

@@ -1,8 +1,9 @@
 -- The items of an order, one by one.
 use Rattle.std.proofs.Common.{◌≡◌, ◌⊎◌, ℕ, ◌+◌, ◌-◌, ◌<◌, ◌≤◌, ◌==◌, Bool, true, false, not, ◌||◌, cond, List, [], ◌∷◌, ◌++◌, length, take, drop, map, get_or, set, replicate, None, Some, inl, inr, refl, subst, sym, ◌∙◌, ap, arith, get_or-set_same, get_or-set_other}
-use Rattle.std.specs.List.{list_any, before_first, after_first}
+use Rattle.std.specs.List.{count_by, list_any, before_first, after_first}
 use Rattle.std.proofs.lemmas.List.{drop_more, take_all, length-drop, length_push, map_more, get_or-replicate, length-set}
 use Rattle.std.proofs.lemmas.List.Folds.{list_any_more}
+use Rattle.std.proofs.lemmas.List.Sums.{sum_by-set}
 use Rattle.std.proofs.lemmas.List.Splits.{slice_split_first, slice_split_none}
 use Rattle.std.proofs.lemmas.Bool.{cases_eq}
 use Rattle.std.proofs.lemmas.Bool.Decides.{nat_tests}
@@ -23,7 +24,7 @@ pieces_in-more text some = ap (map trim) (slice_split_first is_comma text 0 (wit
 pub pieces_in-last : (text : List ℕ) → list_any is_comma text ≡ false → pieces_in text ≡ trim text ∷ []
 pieces_in-last text none = ap (map trim) (slice_split_none is_comma text (none_any is_comma text none))
 
--- the first items are read: they are good, the objects are theirs, and which numbers stood is noted
+-- the first items are read: they are good, the objects are theirs, which numbers stood is noted, and so many do
 pub record AreRead (n line : ℕ) (items others : List (List ℕ)) (ranked : List ℕ) (seen : List Bool) : Type 0 where
   pub present : length ranked ≤ length items
   pub left : others ≡ drop (length ranked) items
@@ -31,6 +32,7 @@ pub record AreRead (n line : ℕ) (items others : List (List ℕ)) (ranked : Lis
   pub good : (k : ℕ) → k < length ranked → item_refusal n line items k ≡ None
   pub room : length seen ≡ 513
   pub noted : (v : ℕ) → v < 513 → get_or seen v false ≡ stood_before (take (length ranked) items) v
+  pub all_noted : count_by (λ (t : Bool). t) seen ≡ length ranked
 
 pub are_read-none : (n line : ℕ) (items : List (List ℕ)) (ranked : List ℕ) → ranked ≡ [] → AreRead n line items items ranked (replicate 513 false)
 are_read-none n line items [] none = record {
@@ -40,6 +42,7 @@ are_read-none n line items [] none = record {
   good = λ k low. absurd (omega (arith, low));
   room = refl;
   noted = λ v small. get_or-replicate 513 v false false small;
+  all_noted = refl;
 }
 are_read-none n line items (r ∷ ranked) none = absurd (cc none)
 
@@ -109,6 +112,7 @@ module _ (n line : ℕ) (items others left : List (List ℕ)) (ranked : List ℕ
           objects = rw long (is ∙ ap (λ (l : List ℕ). l ++ (value - 1) ∷ []) so_far.objects ∙ ap (λ (v : ℕ). map object_of (take k items) ++ v ∷ []) (ap (λ (v : ℕ). v - 1) value_is ∙ ap object_of (sym here.0)) ∙ sym (map_more object_of items k [] more));
           good = λ j low. elim (cases_eq j k) [ inl same ↦ subst (λ (i : ℕ). item_refusal n line items i ≡ None) (sym same) good_here | inr other ↦ so_far.good j (omega (arith, low, long, other)) ];
           room = length-set seen value true ∙ so_far.room;
+          all_noted = omega (arith, sum_by-set (λ (t : Bool). cond t 1 0) seen value true false (omega (arith, small, so_far.room)), ap (λ (t : Bool). cond t 1 0) fresh, so_far.all_noted, long);
           noted = λ v low. rw (long, list_any_more (λ x. digits_value x == v) items k [] more, here.0, ← value_is) (noted_more v low (cases_eq v value));
         }
 

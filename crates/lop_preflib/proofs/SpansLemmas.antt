@@ -22,3 +22,26 @@ part-cut numbers n span within low =
 part-last : (numbers more : List ℕ) (span : Span) → span.start ≡ length numbers → span.end ≡ length numbers + length more → part span (numbers ++ more) ≡ more
 part-last numbers more span start end =
     ap (take (span.end - span.start)) (drop_at numbers more span.start (sym start)) ∙ take_all (span.end - span.start) more (omega arith)
+
+module _ (objects groups more marks : List ℕ) (low : length objects ≤ length groups) where
+  long : length (take (length objects) groups) ≡ length objects
+  long = length-take-le (length objects) groups low
+
+  order_in-kept : (span : Span) → IsWithin (length objects) span → order_in (objects ++ more) (take (length objects) groups ++ marks) span ≡ order_in objects groups span
+  order_in-kept span within =
+      ap (λ (l : List ℕ). record { count = span.count; ranked = l; groups = part span (take (length objects) groups ++ marks) }) (part-more objects more span within)
+      ∙ ap (λ (l : List ℕ). record { count = span.count; ranked = part span objects; groups = l }) (part-more (take (length objects) groups) marks span (record { order = within.order; end = omega (arith, within, long) }) ∙ part-cut groups (length objects) span within low)
+
+  orders-kept : (spans : List Span) → All (IsWithin (length objects)) spans → map (order_in (objects ++ more) (take (length objects) groups ++ marks)) spans ≡ map (order_in objects groups) spans
+  orders-kept [] within = refl
+  orders-kept (span ∷ spans) within =
+      ap (λ (o : CountedOrder). o ∷ map (order_in (objects ++ more) (take (length objects) groups ++ marks)) spans) (order_in-kept span (within 0 span (omega arith)))
+      ∙ ap (λ (os : List CountedOrder). order_in objects groups span ∷ os) (orders-kept spans (λ k d under. within (suc k) d (omega (arith, under))))
+
+  -- one order more
+  pub orders-push : (spans : List Span) (span : Span) → All (IsWithin (length objects)) spans → span.start ≡ length objects → span.end ≡ length objects + length more → length marks ≡ length more → map (order_in (objects ++ more) (take (length objects) groups ++ marks)) (spans ++ span ∷ []) ≡ map (order_in objects groups) spans ++ record { count = span.count; ranked = more; groups = marks } ∷ []
+  orders-push spans span within start end same =
+      map_push (order_in (objects ++ more) (take (length objects) groups ++ marks)) spans span
+      ∙ ap (λ (os : List CountedOrder). os ++ order_in (objects ++ more) (take (length objects) groups ++ marks) span ∷ []) (orders-kept spans within)
+      ∙ ap (λ (l : List ℕ). map (order_in objects groups) spans ++ record { count = span.count; ranked = l; groups = part span (take (length objects) groups ++ marks) } ∷ []) (part-last objects more span start end)
+      ∙ ap (λ (l : List ℕ). map (order_in objects groups) spans ++ record { count = span.count; ranked = more; groups = l } ∷ []) (part-last (take (length objects) groups) marks span (omega (arith, start, long)) (omega (arith, end, same, long)))

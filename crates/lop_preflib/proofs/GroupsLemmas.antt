@@ -1,10 +1,11 @@
 -- Groups, piece by piece.
-use Rattle.std.proofs.Common.{◌≡◌, ℕ, ◌+◌, ◌<◌, ◌≤◌, ltb, Bool, true, false, not, ◌&&◌, ◌||◌, cond, List, [], ◌∷◌, length, take, map, get_or, refl, sym, ◌∙◌, ap, arith}
+use Rattle.std.proofs.Common.{◌≡◌, ℕ, ◌+◌, ◌<◌, ◌≤◌, ltb, Bool, true, false, not, ◌&&◌, ◌||◌, cond, List, [], ◌∷◌, ◌++◌, length, take, drop, map, get_or, inl, inr, refl, sym, ◌∙◌, ap, subst, arith}
 use Rattle.std.specs.List.{count_by, list_any, range_with_len}
-use Rattle.std.proofs.lemmas.List.{length-map}
-use Rattle.std.proofs.lemmas.List.FromFn.{get_or-map-range_with_len, length-map-range_with_len, sum_by-map-range_with_len_more, get_or-range_with_len, length-range_with_len}
-use Rattle.std.proofs.lemmas.List.Sums.{sum_by_more}
+use Rattle.std.proofs.lemmas.List.{length-map, length-drop, drop_more, take_all}
+use Rattle.std.proofs.lemmas.List.FromFn.{get_or-map-range_with_len, length-map-range_with_len, sum_by-map-range_with_len_more, map-range_with_len_more, get_or-range_with_len, length-range_with_len}
+use Rattle.std.proofs.lemmas.List.Sums.{sum_by_more, count_by-le-length}
 use Rattle.std.proofs.lemmas.List.Folds.{list_any_at, list_any_none}
+use Rattle.std.proofs.lemmas.Bool.{cases_eq}
 use Rattle.std.proofs.lemmas.Bool.Decides.{nat_tests}
 use Rattle.lop_preflib.specs.Line.{object_of}
 use Rattle.lop_preflib.specs.Groups.{opens, closes, item_of, is_open, is_brace, is_bad_piece, is_bad_at, are_bad_ties, ends_at, group_at, groups_in}
@@ -93,3 +94,89 @@ good_at pieces good k low = by (is_bad_at pieces k) refl
     by : (t : Bool) → is_bad_at pieces k ≡ t → is_bad_at pieces k ≡ false
     by false e = e
     by true e = absurd (cc (good, bad_ties-at pieces k low e))
+
+-- the piece at a place, and those behind it
+next_piece : (pieces left others : List (List ℕ)) (piece : List ℕ) (k : ℕ) → left ≡ drop k pieces → left ≡ piece ∷ others → (k < length pieces) × (get_or pieces k [] ≡ piece) × (drop (k + 1) pieces ≡ others)
+next_piece pieces left others piece k left_is next =
+    let e : piece ∷ others ≡ drop k pieces = sym next ∙ left_is in
+    let more : k < length pieces = omega (arith, ap length e, length-drop k pieces) in
+    let f = e ∙ drop_more pieces k [] more in
+    (more, (cc, cc))
+
+bad_here : (pieces : List (List ℕ)) (k : ℕ) (inside : Bool) (piece : List ℕ) → IsBalanced pieces k inside → get_or pieces k [] ≡ piece → is_bad_at pieces k ≡ is_bad_piece inside piece
+bad_here pieces k inside piece balanced here =
+    ap (λ (t : Bool). is_bad_piece t (get_or pieces k [])) (is_open-balanced pieces k inside balanced) ∙ ap (is_bad_piece inside) here
+
+-- the pieces before the others aren't bad
+pub record AreGood (pieces others : List (List ℕ)) (inside : Bool) : Type 0 where
+  pub k : ℕ
+  pub present : k ≤ length pieces
+  pub left : others ≡ drop k pieces
+  pub balanced : IsBalanced pieces k inside
+  pub good : (j : ℕ) → j < k → is_bad_at pieces j ≡ false
+
+pub are_good-none : (pieces : List (List ℕ)) → AreGood pieces pieces false
+are_good-none pieces = record { k = 0; present = omega arith; left = refl; balanced = refl; good = λ j low. absurd (omega (arith, low)) }
+
+module _ (pieces left others : List (List ℕ)) (inside : Bool) (piece : List ℕ) (so_far : AreGood pieces left inside) (next : left ≡ piece ∷ others) where
+  pub bad_ties-here : is_bad_piece inside piece ≡ true → are_bad_ties pieces ≡ true
+  bad_ties-here bad =
+      let at = next_piece pieces left others piece so_far.k so_far.left next in
+      bad_ties-at pieces so_far.k at.0 (bad_here pieces so_far.k inside piece so_far.balanced at.1.0 ∙ bad)
+
+  pub are_good-more : (after : Bool) → is_bad_piece inside piece ≡ false → after ≡ ((inside || opens piece) && not (closes piece)) → AreGood pieces others after
+  are_good-more after good is =
+      let at = next_piece pieces left others piece so_far.k so_far.left next in
+      let good_here : is_bad_piece inside (get_or pieces so_far.k []) ≡ false = ap (is_bad_piece inside) at.1.0 ∙ good in
+      let same : ((inside || opens (get_or pieces so_far.k [])) && not (closes (get_or pieces so_far.k []))) ≡ after = ap (λ (p : List ℕ). (inside || opens p) && not (closes p)) at.1.0 ∙ sym is in
+      record {
+        k = so_far.k + 1;
+        present = omega (arith, at.0);
+        left = sym at.1.1;
+        balanced = subst (λ (b : Bool). IsBalanced pieces (so_far.k + 1) b) same (balanced-more pieces so_far.k inside at.0 so_far.balanced good_here);
+        good = λ j low. elim (cases_eq j so_far.k) [ inl e ↦ subst (λ (i : ℕ). is_bad_at pieces i ≡ false) (sym e) (bad_here pieces so_far.k inside piece so_far.balanced at.1.0 ∙ good) | inr other ↦ so_far.good j (omega (arith, low, other)) ];
+      }
+
+-- all pieces are gone through
+pub bad_ties-end : (pieces left : List (List ℕ)) (inside : Bool) → AreGood pieces left inside → left ≡ [] → are_bad_ties pieces ≡ inside
+bad_ties-end pieces left inside so_far none =
+    let all : so_far.k ≡ length pieces = omega (arith, so_far.present, ap length none, ap length so_far.left, length-drop so_far.k pieces) in
+    bad_ties-none pieces (λ j low. so_far.good j (omega (arith, low, all)))
+    ∙ ap is_open (sym (take_all so_far.k pieces (omega (arith, all)))) ∙ is_open-balanced pieces so_far.k inside so_far.balanced
+
+-- the group numbers of the first k pieces, and that of the next
+pub record AreNumbered (pieces others : List (List ℕ)) (k : ℕ) (groups : List ℕ) (inside : Bool) (group : ℕ) : Type 0 where
+  pub left : others ≡ drop k pieces
+  pub balanced : IsBalanced pieces k inside
+  pub group_is : group ≡ group_at pieces k
+  pub groups_are : groups ≡ map (group_at pieces) (range_with_len 0 k)
+
+pub are_numbered-none : (pieces : List (List ℕ)) (ranked groups : List ℕ) → ranked ≡ [] → groups ≡ [] → AreNumbered pieces pieces (length ranked) groups false 0
+are_numbered-none pieces [] groups none empty = record { left = refl; balanced = refl; group_is = refl; groups_are = empty }
+are_numbered-none pieces (r ∷ ranked) groups none empty = absurd (cc none)
+
+turned : (b : Bool) → cond (not b) 1 0 ≡ cond b 0 1
+turned true = refl
+turned false = refl
+
+pub group_at-le : (pieces : List (List ℕ)) (k : ℕ) → group_at pieces k ≤ k
+group_at-le pieces k = omega (arith, count_by-le-length (λ (t : Bool). t) (map (ends_at pieces) (range_with_len 0 k)), length-map-range_with_len (ends_at pieces) 0 k)
+
+pub are_numbered-more : (pieces left others : List (List ℕ)) (k : ℕ) (groups : List ℕ) (inside : Bool) (group : ℕ) (piece : List ℕ) → are_bad_ties pieces ≡ false → AreNumbered pieces left k groups inside group → left ≡ piece ∷ others
+    → (after : Bool) (more : ℕ) (longer : List ℕ) (next : ℕ) → after ≡ ((inside || opens piece) && not (closes piece)) → more ≡ k + 1 → longer ≡ groups ++ group ∷ [] → next ≡ group + cond after 0 1 → AreNumbered pieces others more longer after next
+are_numbered-more pieces left others k groups inside group piece good so_far split after more longer next is more_is longer_is next_is =
+    let at = next_piece pieces left others piece k so_far.left split in
+    let good_here : is_bad_piece inside (get_or pieces k []) ≡ false = ap (is_bad_piece inside) at.1.0 ∙ sym (bad_here pieces k inside piece so_far.balanced at.1.0) ∙ good_at pieces good k at.0 in
+    let same : ((inside || opens (get_or pieces k [])) && not (closes (get_or pieces k []))) ≡ after = ap (λ (p : List ℕ). (inside || opens p) && not (closes p)) at.1.0 ∙ sym is in
+    let balanced : IsBalanced pieces (k + 1) after = subst (λ (b : Bool). IsBalanced pieces (k + 1) b) same (balanced-more pieces k inside at.0 so_far.balanced good_here) in
+    let ended : cond (ends_at pieces k) 1 0 ≡ cond after 0 1 = ap (λ (b : Bool). cond (not b) 1 0) (is_open-balanced pieces (k + 1) after balanced) ∙ turned after in
+    record {
+      left = rw more_is (sym at.1.1);
+      balanced = rw more_is balanced;
+      group_is = rw more_is (next_is ∙ ap (λ (g : ℕ). g + cond after 0 1) so_far.group_is ∙ ap (λ (b : ℕ). group_at pieces k + b) (sym ended) ∙ sym (group_at-more pieces k));
+      groups_are = rw more_is (longer_is ∙ ap (λ (l : List ℕ). l ++ group ∷ []) so_far.groups_are ∙ ap (λ (g : ℕ). map (group_at pieces) (range_with_len 0 k) ++ g ∷ []) so_far.group_is ∙ sym (map-range_with_len_more (group_at pieces) 0 k k (omega arith)));
+    }
+
+pub numbered-all : (pieces left : List (List ℕ)) (k : ℕ) (groups : List ℕ) (inside : Bool) (group : ℕ) → k ≤ length pieces → AreNumbered pieces left k groups inside group → left ≡ [] → groups ≡ groups_in pieces
+numbered-all pieces left k groups inside group low so_far none =
+    so_far.groups_are ∙ ap (λ (m : ℕ). map (group_at pieces) (range_with_len 0 m)) (omega (arith, low, ap length none, ap length so_far.left, length-drop k pieces))

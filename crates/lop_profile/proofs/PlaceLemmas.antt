@@ -1,12 +1,12 @@
 -- Places in a list whose members differ.
-use Rattle.std.proofs.Common.{◌≡◌, ◌≢◌, ◌⊎◌, ℕ, ◌+◌, ◌-◌, ◌<◌, ◌≤◌, ◌==◌, ltb, Bool, true, false, not, ◌&&◌, List, length, drop, get_or, inl, inr, refl, sym, ◌∙◌, ap, arith}
+use Rattle.std.proofs.Common.{◌≡◌, ◌≢◌, ◌⊎◌, ℕ, zero, suc, ◌+◌, ◌-◌, ◌<◌, ◌≤◌, ◌==◌, ltb, Bool, true, false, not, ◌&&◌, List, length, drop, get_or, inl, inr, refl, sym, ◌∙◌, ap, subst, arith}
 use Rattle.std.proofs.lemmas.List.{get_or-drop, length-drop}
 use Rattle.std.proofs.lemmas.List.Sums.{position_or_len_is, passes_at_first, fails_before_first, prefix_len-le-length}
 use Rattle.std.proofs.lemmas.Bool.{cases_lt}
 use Rattle.std.proofs.lemmas.Bool.Decides.{nat_tests}
 use Rattle.lop_model.specs.Order.{place_of}
-use Rattle.lop_profile.specs.Preference.{stands_in}
-use Rattle.lop_profile.specs.Cells.{IsRanking}
+use Rattle.lop_profile.specs.Preference.{stands_in, group_of}
+use Rattle.lop_profile.specs.Cells.{IsRanking, AreGrouped}
 
 -- the test of equality
 same_test : (a b : ℕ) → a ≡ b → (a == b) ≡ true
@@ -91,3 +91,51 @@ module _ (n : ℕ) (ranked : List ℕ) (ranking : IsRanking n ranked) where
         by : (p < place_of ranked j) ⊎ (place_of ranked j ≤ p) → stands_in (drop (p + 1) ranked) j ≡ (stands_in ranked j && ltb p (place_of ranked j))
         by (inl after) = later after ∙ with_true (stands_in ranked j) (ltb p (place_of ranked j)) (grind (arith, nat_tests))
         by (inr before) = earlier before ∙ with_false (stands_in ranked j) (ltb p (place_of ranked j)) (grind (arith, nat_tests))
+
+-- the group of the object at place p ends before this place
+pub record IsGroupEnd (groups : List ℕ) (p end : ℕ) : Type 0 where
+  pub behind : p < end
+  pub within : end ≤ length groups
+  pub same : (q : ℕ) → p ≤ q → q < end → get_or groups q 0 ≡ get_or groups p 0
+  pub next : end < length groups → get_or groups end 0 ≢ get_or groups p 0
+
+-- an object stands behind the group of a place exactly where it stands in the list, and its group is a later one
+pub stands_in-behind : (n : ℕ) (ranked groups : List ℕ) (p end j : ℕ) → IsRanking n ranked → AreGrouped ranked groups → p < length ranked → IsGroupEnd groups p end → stands_in (drop end ranked) j ≡ (stands_in ranked j && ltb (get_or groups p 0) (group_of ranked groups j))
+stands_in-behind n ranked groups p end j ranking grouped within of_end =
+    ap (λ (e : ℕ). stands_in (drop e ranked) j) (omega (arith, of_end.behind))
+    ∙ stands_in-drop n ranked ranking (end - 1) j (omega (arith, of_end.behind, of_end.within, grouped.grouped))
+    ∙ by (cases_lt (place_of ranked j) (length ranked))
+  where
+    outside : (t l : ℕ) (a b : Bool) → l ≤ t → (ltb t l && a) ≡ (ltb t l && b)
+    outside t l a b over = grind (arith, nat_tests)
+
+    earlier_group : (q e g h : ℕ) → q ≤ e → h ≤ g → ltb e q ≡ ltb g h
+    earlier_group q e g h low less = grind (arith, nat_tests)
+
+    later_group : (q e g h : ℕ) → e < q → g < h → ltb e q ≡ ltb g h
+    later_group q e g h high more = grind (arith, nat_tests)
+
+    place = place_of ranked j
+
+    tests : place < length ranked → ltb (end - 1) place ≡ ltb (get_or groups p 0) (get_or groups place 0)
+    tests inside = elim (cases_lt place end) [
+      | inl before ↦ elim (cases_lt place p) [
+          | inl under ↦ earlier_group place (end - 1) (get_or groups p 0) (get_or groups place 0) (omega (arith, before)) (grouped.rising place p (omega (arith, under)) (omega (arith, within, grouped.grouped)))
+          | inr over ↦ earlier_group place (end - 1) (get_or groups p 0) (get_or groups place 0) (omega (arith, before)) (omega (arith, of_end.same place over before))
+        ]
+      | inr after ↦
+          let low : end < length groups = omega (arith, after, inside, grouped.grouped) in
+          later_group place (end - 1) (get_or groups p 0) (get_or groups place 0) (omega (arith, after, of_end.behind))
+          (omega (arith, of_end.next low, grouped.rising p end (omega (arith, of_end.behind)) low, grouped.rising end place after (omega (arith, inside, grouped.grouped))))
+    ]
+
+    by : (place < length ranked) ⊎ (length ranked ≤ place) → (stands_in ranked j && ltb (end - 1) place) ≡ (stands_in ranked j && ltb (get_or groups p 0) (get_or groups place 0))
+    by (inl inside) = ap (λ (t : Bool). stands_in ranked j && t) (tests inside)
+    by (inr over) = outside place (length ranked) (ltb (end - 1) place) (ltb (get_or groups p 0) (get_or groups place 0)) over
+
+-- group numbers that are each the one before or the next never fall
+pub rising-steps : (groups : List ℕ) → ((p : ℕ) → p + 1 < length groups → get_or groups p 0 ≤ get_or groups (p + 1) 0) → (p k : ℕ) → p + k < length groups → get_or groups p 0 ≤ get_or groups (p + k) 0
+rising-steps groups step p zero low = subst (λ (q : ℕ). get_or groups p 0 ≤ get_or groups q 0) (omega arith) (omega arith)
+rising-steps groups step p (suc k) low =
+    let more : get_or groups (p + k) 0 ≤ get_or groups (p + k + 1) 0 = step (p + k) (omega (arith, low)) in
+    subst (λ (q : ℕ). get_or groups p 0 ≤ get_or groups q 0) (omega arith) (omega (arith, more, rising-steps groups step p k (omega (arith, low))))

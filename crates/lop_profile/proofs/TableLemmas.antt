@@ -46,15 +46,16 @@ module _ (n : ℕ) (orders : List CountedOrder) (m : ℕ) (cells : List ℕ) (so
   cells_small = λ k d low. omega (arith, cell_is n orders m cells so_far k d low, preference-fits orders m within (k / n) (k % n), few, count_is)
 
   -- one order more
-  pub are_cells-more : (after ranked : List ℕ) → length after ≡ length cells → ranked ≡ (order_at orders m).ranked
-      → ((i j : ℕ) → i < n → j < n → get_or after (i * n + j) 0 ≡ get_or cells (i * n + j) 0 + cond (ranks_before ranked i j) count 0) → AreCells n orders (m + 1) after
-  are_cells-more after ranked long ranked_is step = record {
+  pub are_cells-more : (after ranked groups : List ℕ) → length after ≡ length cells → ranked ≡ (order_at orders m).ranked → groups ≡ (order_at orders m).groups
+      → ((i j : ℕ) → i < n → j < n → get_or after (i * n + j) 0 ≡ get_or cells (i * n + j) 0 + cond (ranks_before ranked groups i j) count 0) → AreCells n orders (m + 1) after
+  are_cells-more after ranked groups long ranked_is groups_are step = record {
     square = long ∙ so_far.square;
     preferences = λ i j low under.
         step i j low under
-        ∙ ap (λ (v : ℕ). v + cond (ranks_before ranked i j) count 0) (so_far.preferences i j low under)
-        ∙ ap (λ (l : List ℕ). preference (take m orders) i j + cond (ranks_before l i j) count 0) ranked_is
-        ∙ ap (λ (v : ℕ). preference (take m orders) i j + cond (ranks_before (order_at orders m).ranked i j) v 0) count_is
+        ∙ ap (λ (v : ℕ). v + cond (ranks_before ranked groups i j) count 0) (so_far.preferences i j low under)
+        ∙ ap (λ (l : List ℕ). preference (take m orders) i j + cond (ranks_before l groups i j) count 0) ranked_is
+        ∙ ap (λ (l : List ℕ). preference (take m orders) i j + cond (ranks_before (order_at orders m).ranked l i j) count 0) groups_are
+        ∙ ap (λ (v : ℕ). preference (take m orders) i j + cond (ranks_before (order_at orders m).ranked (order_at orders m).groups i j) v 0) count_is
         ∙ sym (preference-more orders m within i j);
   }
 

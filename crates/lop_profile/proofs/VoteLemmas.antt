@@ -9,7 +9,7 @@ abbrev count_of : CountedOrder → ℕ
 count_of order = order.count
 
 abbrev no_order : CountedOrder
-no_order = record { count = 0; ranked = [] }
+no_order = record { count = 0; ranked = []; groups = [] }
 
 votes-sum : (orders : List CountedOrder) → votes orders ≡ sum_by count_of orders
 votes-sum orders = sum-map count_of orders
@@ -24,7 +24,7 @@ part false count = omega arith
 -- those who prefer one object are some of the voters
 pub preference-le : (orders : List CountedOrder) (m i j : ℕ) → preference (take m orders) i j ≤ votes orders
 preference-le orders m i j =
-    omega (arith, preference-sum (take m orders) i j, votes-sum orders, sum_by-take-le count_of orders m, sum_by-le-sum_by (order_preference i j) count_of (take m orders) (λ order. part (ranks_before order.ranked i j) order.count))
+    omega (arith, preference-sum (take m orders) i j, votes-sum orders, sum_by-take-le count_of orders m, sum_by-le-sum_by (order_preference i j) count_of (take m orders) (λ order. part (ranks_before order.ranked order.groups i j) order.count))
 
 module _ (orders : List CountedOrder) (m : ℕ) (within : m < length orders) where
   pub votes-more : votes (take (m + 1) orders) ≡ votes (take m orders) + (order_at orders m).count
@@ -41,4 +41,4 @@ module _ (orders : List CountedOrder) (m : ℕ) (within : m < length orders) whe
   -- an order's voters, and those who preferred so before it, are some of all voters
   pub preference-fits : (i j : ℕ) → preference (take m orders) i j + (order_at orders m).count ≤ votes orders
   preference-fits i j =
-      omega (arith, preference-sum (take m orders) i j, votes-sum orders, sum_by_more_le_part (order_preference i j) count_of orders m no_order within (λ order. part (ranks_before order.ranked i j) order.count))
+      omega (arith, preference-sum (take m orders) i j, votes-sum orders, sum_by_more_le_part (order_preference i j) count_of orders m no_order within (λ order. part (ranks_before order.ranked order.groups i j) order.count))

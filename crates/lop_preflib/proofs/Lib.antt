@@ -3,6 +3,7 @@ pub mod DigitLemmas
 pub mod LineLemmas
 pub mod FirstLemmas
 pub mod GroupsLemmas
+pub mod BraceLemmas
 pub mod ItemsLemmas
 pub mod OrderLemmas
 pub mod SpansLemmas

@@ -180,3 +180,10 @@ are_numbered-more pieces left others k groups inside group piece good so_far spl
 pub numbered-all : (pieces left : List (List ℕ)) (k : ℕ) (groups : List ℕ) (inside : Bool) (group : ℕ) → k ≤ length pieces → AreNumbered pieces left k groups inside group → left ≡ [] → groups ≡ groups_in pieces
 numbered-all pieces left k groups inside group low so_far none =
     so_far.groups_are ∙ ap (λ (m : ℕ). map (group_at pieces) (range_with_len 0 m)) (omega (arith, low, ap length none, ap length so_far.left, length-drop k pieces))
+
+-- the tests on a piece's parts
+pub bad_parts : (inside : Bool) (piece : List ℕ) (o c : Bool) (item : List ℕ) → o ≡ opens piece → c ≡ closes piece → item ≡ item_of piece → ((inside && o) || (not (inside || o) && c) || list_any is_brace item) ≡ is_bad_piece inside piece
+bad_parts inside piece o c item e f g = rw (e, f, g) refl
+
+pub open_parts : (inside : Bool) (piece : List ℕ) (o c : Bool) → o ≡ opens piece → c ≡ closes piece → ((inside || o) && not c) ≡ ((inside || opens piece) && not (closes piece))
+open_parts inside piece o c e f = rw (e, f) refl

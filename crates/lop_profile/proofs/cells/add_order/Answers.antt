@@ -23,7 +23,7 @@ add_row-requires-clause-small c = λ k d low.
     let fits : s + n ≤ length cells = omega (arith, row_le a n n (c.requires.ranked.below p within), c.requires.square) in
     let small : k < n = omega (arith, low, row_length cells s n fits) in
     let cell : get_or (take (s + n - s) (drop s cells)) k d ≡ get_or c.args.cells.now (s + k) 0 =
-    get_or_default (take (s + n - s) (drop s cells)) k d 0 low ∙ in_row cells s n k small ∙ row_before c.args.cells.now cells n c.args.count ranked p c.requires.ranked within c.loop-place.invariant k small
+    get_or_default (take (s + n - s) (drop s cells)) k d 0 low ∙ in_row cells s n k small ∙ row_before c.args.cells.now cells n c.args.count ranked c.args.groups.now p c.requires.ranked c.requires.groups within c.loop-place.invariant k small
     in
     omega (arith, cell, c.requires.small (s + k) 0 (omega (arith, fits, small)))
 
@@ -38,6 +38,6 @@ loop-place-preserved c =
     let within : p < length ranked = omega arith in
     let fits : s + n ≤ length cells = omega (arith, row_le a n n (c.requires.ranked.below p within), c.requires.square) in
     let long : length c.add_row.new.row ≡ n = omega (arith, c.add_row.auto.row, row_length cells s n fits) in
-    pairs_added-more c.args.cells.now cells n c.args.count ranked p c.requires.ranked within c.loop-place.invariant
-    (s + n - s) c.add_row.new.row c.later.result.now (omega arith) (c.loop-place.auto.cells ∙ c.requires.square) long c.later.ensures
+    pairs_added-more c.args.cells.now cells n c.args.count ranked c.args.groups.now p c.requires.ranked c.requires.groups within c.loop-place.invariant
+    (s + n - s) c.group_end-end.result c.add_row.new.row c.later.result.now (omega arith) (c.loop-place.auto.cells ∙ c.requires.square) long c.later.ensures (record { behind = c.group_end-end.ensures.behind; within = c.group_end-end.ensures.within; same = c.group_end-end.ensures.same; next = c.group_end-end.ensures.next })
     (λ j low. c.add_row.ensures j (omega (arith, low, row_length cells s n fits)) ∙ ap (λ (v : ℕ). v + cond (stands_in c.later.result.now j) c.args.count 0) (in_row cells s n j low))

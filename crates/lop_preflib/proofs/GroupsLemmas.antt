@@ -101,7 +101,7 @@ next_piece pieces left others piece k left_is next =
     let e : piece ∷ others ≡ drop k pieces = sym next ∙ left_is in
     let more : k < length pieces = omega (arith, ap length e, length-drop k pieces) in
     let f = e ∙ drop_more pieces k [] more in
-    (more, (cc, cc))
+    (more, cc, cc)
 
 bad_here : (pieces : List (List ℕ)) (k : ℕ) (inside : Bool) (piece : List ℕ) → IsBalanced pieces k inside → get_or pieces k [] ≡ piece → is_bad_at pieces k ≡ is_bad_piece inside piece
 bad_here pieces k inside piece balanced here =
@@ -122,19 +122,19 @@ module _ (pieces left others : List (List ℕ)) (inside : Bool) (piece : List �
   pub bad_ties-here : is_bad_piece inside piece ≡ true → are_bad_ties pieces ≡ true
   bad_ties-here bad =
       let at = next_piece pieces left others piece so_far.k so_far.left next in
-      bad_ties-at pieces so_far.k at.0 (bad_here pieces so_far.k inside piece so_far.balanced at.1.0 ∙ bad)
+      bad_ties-at pieces so_far.k at.0 (bad_here pieces so_far.k inside piece so_far.balanced at.1 ∙ bad)
 
   pub are_good-more : (after : Bool) → is_bad_piece inside piece ≡ false → after ≡ ((inside || opens piece) && not (closes piece)) → AreGood pieces others after
   are_good-more after good is =
       let at = next_piece pieces left others piece so_far.k so_far.left next in
-      let good_here : is_bad_piece inside (get_or pieces so_far.k []) ≡ false = ap (is_bad_piece inside) at.1.0 ∙ good in
-      let same : ((inside || opens (get_or pieces so_far.k [])) && not (closes (get_or pieces so_far.k []))) ≡ after = ap (λ (p : List ℕ). (inside || opens p) && not (closes p)) at.1.0 ∙ sym is in
+      let good_here : is_bad_piece inside (get_or pieces so_far.k []) ≡ false = ap (is_bad_piece inside) at.1 ∙ good in
+      let same : ((inside || opens (get_or pieces so_far.k [])) && not (closes (get_or pieces so_far.k []))) ≡ after = ap (λ (p : List ℕ). (inside || opens p) && not (closes p)) at.1 ∙ sym is in
       record {
         k = so_far.k + 1;
         present = omega (arith, at.0);
-        left = sym at.1.1;
+        left = sym at.2;
         balanced = subst (λ (b : Bool). IsBalanced pieces (so_far.k + 1) b) same (balanced-more pieces so_far.k inside at.0 so_far.balanced good_here);
-        good = λ j low. elim (cases_eq j so_far.k) [ inl e ↦ subst (λ (i : ℕ). is_bad_at pieces i ≡ false) (sym e) (bad_here pieces so_far.k inside piece so_far.balanced at.1.0 ∙ good) | inr other ↦ so_far.good j (omega (arith, low, other)) ];
+        good = λ j low. elim (cases_eq j so_far.k) [ inl e ↦ subst (λ (i : ℕ). is_bad_at pieces i ≡ false) (sym e) (bad_here pieces so_far.k inside piece so_far.balanced at.1 ∙ good) | inr other ↦ so_far.good j (omega (arith, low, other)) ];
       }
 
 -- all pieces are gone through
@@ -155,7 +155,7 @@ pub are_numbered-none : (pieces : List (List ℕ)) (ranked groups : List ℕ) �
 are_numbered-none pieces [] groups none empty = record { left = refl; balanced = refl; group_is = refl; groups_are = empty }
 are_numbered-none pieces (r ∷ ranked) groups none empty = absurd (cc none)
 
-turned : (b : Bool) → cond (not b) 1 0 ≡ cond b 0 1
+turned : (b : Bool) → ◌≡◌ {A = ℕ} (cond (not b) 1 0) (cond b 0 1)
 turned true = refl
 turned false = refl
 
@@ -166,12 +166,12 @@ pub are_numbered-more : (pieces left others : List (List ℕ)) (k : ℕ) (groups
     → (after : Bool) (more : ℕ) (longer : List ℕ) (next : ℕ) → after ≡ ((inside || opens piece) && not (closes piece)) → more ≡ k + 1 → longer ≡ groups ++ group ∷ [] → next ≡ group + cond after 0 1 → AreNumbered pieces others more longer after next
 are_numbered-more pieces left others k groups inside group piece good so_far split after more longer next is more_is longer_is next_is =
     let at = next_piece pieces left others piece k so_far.left split in
-    let good_here : is_bad_piece inside (get_or pieces k []) ≡ false = ap (is_bad_piece inside) at.1.0 ∙ sym (bad_here pieces k inside piece so_far.balanced at.1.0) ∙ good_at pieces good k at.0 in
-    let same : ((inside || opens (get_or pieces k [])) && not (closes (get_or pieces k []))) ≡ after = ap (λ (p : List ℕ). (inside || opens p) && not (closes p)) at.1.0 ∙ sym is in
+    let good_here : is_bad_piece inside (get_or pieces k []) ≡ false = ap (is_bad_piece inside) at.1 ∙ sym (bad_here pieces k inside piece so_far.balanced at.1) ∙ good_at pieces good k at.0 in
+    let same : ((inside || opens (get_or pieces k [])) && not (closes (get_or pieces k []))) ≡ after = ap (λ (p : List ℕ). (inside || opens p) && not (closes p)) at.1 ∙ sym is in
     let balanced : IsBalanced pieces (k + 1) after = subst (λ (b : Bool). IsBalanced pieces (k + 1) b) same (balanced-more pieces k inside at.0 so_far.balanced good_here) in
     let ended : cond (ends_at pieces k) 1 0 ≡ cond after 0 1 = ap (λ (b : Bool). cond (not b) 1 0) (is_open-balanced pieces (k + 1) after balanced) ∙ turned after in
     record {
-      left = rw more_is (sym at.1.1);
+      left = rw more_is (sym at.2);
       balanced = rw more_is balanced;
       group_is = rw more_is (next_is ∙ ap (λ (g : ℕ). g + cond after 0 1) so_far.group_is ∙ ap (λ (b : ℕ). group_at pieces k + b) (sym ended) ∙ sym (group_at-more pieces k));
       groups_are = rw more_is (longer_is ∙ ap (λ (l : List ℕ). l ++ group ∷ []) so_far.groups_are ∙ ap (λ (g : ℕ). map (group_at pieces) (range_with_len 0 k) ++ g ∷ []) so_far.group_is ∙ sym (map-range_with_len_more (group_at pieces) 0 k k (omega arith)));

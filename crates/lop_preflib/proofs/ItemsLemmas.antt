@@ -112,7 +112,7 @@ module _ (n line : ℕ) (items others left : List (List ℕ)) (ranked : List ℕ
           objects = rw long (is ∙ ap (λ (l : List ℕ). l ++ (value - 1) ∷ []) so_far.objects ∙ ap (λ (v : ℕ). map object_of (take k items) ++ v ∷ []) (ap (λ (v : ℕ). v - 1) value_is ∙ ap object_of (sym here.0)) ∙ sym (map_more object_of items k [] more));
           good = λ j low. elim (cases_eq j k) [ inl same ↦ subst (λ (i : ℕ). item_refusal n line items i ≡ None) (sym same) good_here | inr other ↦ so_far.good j (omega (arith, low, long, other)) ];
           room = length-set seen value true ∙ so_far.room;
-          all_noted = omega (arith, sum_by-set (λ (t : Bool). cond t 1 0) seen value true false (omega (arith, small, so_far.room)), ap (λ (t : Bool). cond t 1 0) fresh, so_far.all_noted, long);
+          all_noted = omega (arith, sum_by-set (λ (t : Bool). cond t 1 0) seen value true false (omega (arith, small, so_far.room)), ap {B = ℕ} (λ (t : Bool). cond t 1 0) fresh, so_far.all_noted, long);
           noted = λ v low. rw (long, list_any_more (λ x. digits_value x == v) items k [] more, here.0, ← value_is) (noted_more v low (cases_eq v value));
         }
 

@@ -1,5 +1,5 @@
 -- The tests of an order line, in their order.
-use Rattle.std.proofs.Common.{◌≡◌, ℕ, ◌+◌, ◌^◌, ◌<◌, ◌≤◌, Bool, true, false, not, cond, ltb, List, map, Option, None, Some, refl, sym, ◌∙◌, ap}
+use Rattle.std.proofs.Common.{◌≡◌, ℕ, ◌+◌, ◌^◌, ◌<◌, ◌≤◌, Bool, true, false, not, cond, ltb, List, length, map, Option, None, Some, refl, sym, ◌∙◌, ap}
 use Rattle.std.specs.List.{list_any, before_first, after_first}
 use Rattle.std.proofs.lemmas.Bool.{lt-ltb, le-ltb}
 use Rattle.lop_desk.specs.Number.{digits_value}
@@ -10,6 +10,7 @@ use Rattle.lop_preflib.specs.Groups.{item_of, groups_in, are_bad_ties}
 use Rattle.lop_preflib.specs.Refusal.{items_refusal, votes_refusal, order_refusal}
 use Rattle.lop_preflib.specs.declared.refusal.PrefRefusal.{PrefRefusal}
 use Rattle.lop_preflib.specs.declared.refusal.PrefRefusal.TheVariants.{NoSize, SizeRange, BadLine, BadCount, Ties, BadAlternative, Repeated, TooMany, NoOrders, Memory}
+use Rattle.lop_preflib.proofs.GroupsLemmas.{length-groups_in}
 use Rattle.lop_preflib.specs.Steps.{IsStop, IsOrderRead}
 
 module _ (n voters line : ℕ) (text : List ℕ) where
@@ -76,6 +77,7 @@ module _ (n voters line : ℕ) (text word list : List ℕ) (is : IsCut text word
           count_is = count_is ∙ ap digits_value is.word_is;
           ranked_is = ranked_of ∙ ap (λ (l : List ℕ). map object_of (map item_of (pieces_in l))) is.list_is;
           groups_are = groups_of ∙ ap (λ (l : List ℕ). groups_in (pieces_in l)) is.list_is;
+          grouped = ap length groups_of ∙ length-groups_in (pieces_in list) ∙ sym (ap length ranked_of);
           few = few;
         }
 

@@ -1,5 +1,5 @@
 -- What reading one line does.
-use Rattle.std.specs.Prelude.{◌≡◌, ℕ, ◌+◌, ◌≤◌, ◌^◌, List, [], ◌∷◌, ◌++◌, Option, None, Some, cond, All}
+use Rattle.std.specs.Prelude.{◌≡◌, ℕ, ◌+◌, ◌≤◌, ◌^◌, List, [], ◌∷◌, ◌++◌, length, Option, None, Some, cond, All}
 use Rattle.std.specs.Option.{option_map, unwrap_or}
 use Rattle.lop_desk.specs.Number.{digits_value}
 use Rattle.lop_preflib.specs.First.{or_else}
@@ -24,6 +24,7 @@ pub record IsOrderRead (line : List ℕ) (n voters number count : ℕ) (ranked g
   pub count_is : count ≡ (order_of line).count
   pub ranked_is : ranked ≡ (order_of line).ranked
   pub groups_are : groups ≡ (order_of line).groups
+  pub grouped : length groups ≡ length ranked
   pub few : voters + count ≤ MAX_VOTERS
 
 -- a line that isn't refused is gathered

@@ -10,16 +10,16 @@ loop-text-init c =
     let left : pieces_left c.into_iter-text-iterator.result ≡ pieces = ap pieces_left c.into_iter-text-iterator.ensures.into_iter_gives in
     subst (λ (l : List (List ℕ)). AreGood pieces l false) (sym left) (are_good-none pieces)
 
-pub returns-then-is_bad-piece : goal.returns-then-is_bad-piece
-returns-then-is_bad-piece c =
+pub returns-then-is_bad : goal.returns-then-is_bad
+returns-then-is_bad c =
     let parts = c.parts_of-piece.ensures in
-    let bad = sym (bad_parts c.loop-text.inside c.in-Some.text.now _ _ _ parts.opens parts.closes parts.item) ∙ sym c.is_bad.ensures ∙ c.if-is_bad-piece.true in
+    let bad = sym (bad_parts c.loop-text.inside c.in-Some.text.now _ _ _ parts.opens parts.closes parts.item) ∙ sym c.is_bad.ensures ∙ c.if-is_bad.true in
     sym (bad_ties-here _ _ _ c.loop-text.inside c.in-Some.text.now c.loop-text.invariant c.in-Some.ensures.steps bad)
 
 pub loop-text-preserved : goal.loop-text-preserved
 loop-text-preserved c =
     let parts = c.parts_of-piece.ensures in
-    let good = sym (bad_parts c.loop-text.inside c.in-Some.text.now _ _ _ parts.opens parts.closes parts.item) ∙ sym c.is_bad.ensures ∙ c.if-is_bad-piece.false in
+    let good = sym (bad_parts c.loop-text.inside c.in-Some.text.now _ _ _ parts.opens parts.closes parts.item) ∙ sym c.is_bad.ensures ∙ c.if-is_bad.false in
     are_good-more _ _ _ c.loop-text.inside c.in-Some.text.now c.loop-text.invariant c.in-Some.ensures.steps _ good (c.leaves_open.ensures ∙ open_parts c.loop-text.inside c.in-Some.text.now _ _ parts.opens parts.closes)
 
 pub returns : goal.returns

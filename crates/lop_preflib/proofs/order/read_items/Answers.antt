@@ -1,5 +1,8 @@
 use Rattle.std.proofs.Common.{◌≡◌, List, ℕ, [], length, map, false, replicate, refl, subst, sym, ◌∙◌, ap, arith}
 use Rattle.lop_preflib.specs.Line.{pieces_in}
+use Rattle.std.proofs.lemmas.List.{length-map}
+use Rattle.lop_desk.specs.Number.{digits_value}
+use Rattle.lop_preflib.specs.Text.{is_number_to}
 use Rattle.lop_preflib.specs.Groups.{item_of}
 use Rattle.lop_preflib.specs.Pieces.{pieces_left}
 use Rattle.lop_preflib.proofs.ItemsLemmas.{AreRead, are_read-none, are_read-noted, items_refusal-bad, items_refusal-repeated, items_refusal-all, objects-all}
@@ -14,3 +17,23 @@ loop-text-init c =
       read = subst (λ (l : List (List ℕ)). AreRead c.args.n c.args.number (map item_of pieces) (map item_of l) c.clear.new.self.objects.items (replicate 513 false)) (sym left) (are_read-none c.args.n c.args.number (map item_of pieces) c.clear.new.self.objects.items c.clear.ensures.objects);
       numbered = subst (λ (l : List (List ℕ)). AreNumbered pieces l (length c.clear.new.self.objects.items) c.clear.new.self.groups.items false 0) (sym left) (are_numbered-none pieces c.clear.new.self.objects.items c.clear.new.self.groups.items c.clear.ensures.objects c.clear.ensures.groups);
     }
+
+pub returns-in_default-clause-refusal : goal.returns-in_default-clause-refusal
+returns-in_default-clause-refusal c =
+    let item = c.parts_of-piece.ensures.item in
+    items_refusal-bad _ _ _ _ _ c.loop-text.ranking.objects.items c.loop-text.seen (item_of c.in-Some.text.now) c.loop-text.invariant.read (ap (map item_of) c.in-Some.ensures.steps) (ap (is_number_to c.args.n) (sym item) ∙ c.in_default.ensures)
+
+pub returns-then-note-clause-refusal : goal.returns-then-note-clause-refusal
+returns-then-note-clause-refusal c =
+    let number = c.in-Some-number_up_to.ensures in
+    let item = c.parts_of-piece.ensures.item in
+    items_refusal-repeated _ _ _ _ _ c.loop-text.ranking.objects.items c.loop-text.seen (item_of c.in-Some.text.now) c.loop-text.invariant.read (ap (map item_of) c.in-Some.ensures.steps) c.in-Some-number_up_to.value (ap (is_number_to c.args.n) (sym item) ∙ number.0) (number.1 ∙ ap digits_value item) (omega arith) (sym c.note.ensures.stood ∙ c.if-note.true)
+
+pub returns-clause-objects : goal.returns-clause-objects
+returns-clause-objects c = objects-all _ _ _ _ c.loop-text.ranking.objects.items c.loop-text.seen c.loop-text.invariant.read (ap (map item_of) c.in-None.ensures.steps.0)
+
+pub returns-clause-groups : goal.returns-clause-groups
+returns-clause-groups c = numbered-all (pieces_in c.args.list.now) _ (length c.loop-text.ranking.objects.items) c.loop-text.ranking.groups.items c.loop-text.inside c.loop-text.group (omega (arith, c.loop-text.invariant.read.present, length-map (pieces_in c.args.list.now) item_of)) c.loop-text.invariant.numbered c.in-None.ensures.steps.0
+
+pub returns-clause-good : goal.returns-clause-good
+returns-clause-good c = items_refusal-all _ _ _ _ c.loop-text.ranking.objects.items c.loop-text.seen c.loop-text.invariant.read (ap (map item_of) c.in-None.ensures.steps.0)

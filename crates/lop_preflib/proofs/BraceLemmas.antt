@@ -17,7 +17,15 @@ abbrev pub IsPlain : List ℕ → Type 0
 IsPlain bytes = All (λ b. is_brace b ≡ false) bytes
 
 plain-onto : (b : ℕ) (pieces : List (List ℕ)) → is_brace b ≡ false → All IsPlain pieces → All IsPlain (onto_first b pieces)
-plain-onto b [] plain others = λ k d low. absurd (omega (arith, low))
+plain-onto b [] plain others = λ k d low. at k d low
+  where
+    front : IsPlain (b ∷ [])
+    front zero d low = plain
+    front (suc k) d low = absurd (omega (arith, low))
+
+    at : (k : ℕ) (d : List ℕ) → k < length (onto_first b []) → IsPlain (get_or (onto_first b []) k d)
+    at zero d low = front
+    at (suc k) d low = absurd (omega (arith, low))
 plain-onto b (piece ∷ pieces) plain others = λ k d low. at k d low
   where
     front : IsPlain (b ∷ piece)
@@ -34,18 +42,15 @@ plain-split [] plain = one
     one : (k : ℕ) (d : List ℕ) → k < 1 → IsPlain (get_or ([] ∷ []) k d)
     one zero d low = plain
     one (suc k) d low = absurd (omega (arith, low))
-plain-split (b ∷ text) plain = by (is_comma b) refl
+plain-split (b ∷ text) plain = by (plain-split text (λ k d low. plain (suc k) d (omega (arith, low)))) (is_comma b) refl
   where
-    rest : All IsPlain (slice_split is_comma text)
-    rest = plain-split text (λ k d low. plain (suc k) d (omega (arith, low)))
+    cut : All IsPlain (slice_split is_comma text) → (k : ℕ) (d : List ℕ) → k < length ([] ∷ slice_split is_comma text) → IsPlain (get_or ([] ∷ slice_split is_comma text) k d)
+    cut rest zero d low = λ j e less. absurd (omega (arith, less))
+    cut rest (suc k) d low = rest k d (omega (arith, low))
 
-    cut : (k : ℕ) (d : List ℕ) → k < length ([] ∷ slice_split is_comma text) → IsPlain (get_or ([] ∷ slice_split is_comma text) k d)
-    cut zero d low = λ j e less. absurd (omega (arith, less))
-    cut (suc k) d low = rest k d (omega (arith, low))
-
-    by : (t : Bool) → is_comma b ≡ t → All IsPlain (slice_split is_comma (b ∷ text))
-    by true e = subst (λ (l : List (List ℕ)). All IsPlain l) (sym (slice_split-cons_yes is_comma b text e)) cut
-    by false e = subst (λ (l : List (List ℕ)). All IsPlain l) (sym (slice_split-cons_no is_comma b text e)) (plain-onto b (slice_split is_comma text) (plain 0 0 (omega arith)) rest)
+    by : All IsPlain (slice_split is_comma text) → (t : Bool) → is_comma b ≡ t → All IsPlain (slice_split is_comma (b ∷ text))
+    by rest true e = subst (λ (l : List (List ℕ)). All IsPlain l) (sym (slice_split-cons_yes is_comma b text e)) (cut rest)
+    by rest false e = subst (λ (l : List (List ℕ)). All IsPlain l) (sym (slice_split-cons_no is_comma b text e)) (plain-onto b (slice_split is_comma text) (plain 0 0 (omega arith)) rest)
 
 plain-trim : (bytes : List ℕ) → IsPlain bytes → IsPlain (trim bytes)
 plain-trim bytes plain = All-take (λ b. is_brace b ≡ false) (length (without_front bytes) - suffix_len is_blank (without_front bytes)) (without_front bytes) (All-drop (λ b. is_brace b ≡ false) (prefix_len is_blank bytes) bytes plain)
@@ -96,7 +101,7 @@ balanced-plain pieces plain (suc k) low =
     let here : IsPlain piece = plain k [] (omega (arith, low)) in
     let next = balanced-more pieces k false (omega (arith, low)) (balanced-plain pieces plain k (omega (arith, low))) (plain-good piece here) in
     let shut : (opens piece && not (closes piece)) ≡ false = ap (λ (t : Bool). t && not (closes piece)) (plain-opens piece here) in
-    subst (λ (m : ℕ). IsBalanced pieces m false) (omega arith) (subst (λ (b : Bool). IsBalanced pieces (k + 1) b) shut next)
+    subst (λ (m : ℕ). IsBalanced pieces m false) {x = k + 1} {y = suc k} (omega arith) (subst (λ (b : Bool). IsBalanced pieces (k + 1) b) shut next)
 
 -- no brace stands in the list: its ties are good
 pub no_ties : (text : List ℕ) → list_any is_brace text ≡ false → are_bad_ties (pieces_in text) ≡ false

@@ -3,7 +3,7 @@ use Rattle.std.proofs.Common.{◌≡◌, ◌⊎◌, ℕ, ◌+◌, ◌-◌, ◌<�
 use Rattle.std.specs.List.{count_by, list_any, before_first, after_first}
 use Rattle.std.proofs.lemmas.List.{drop_more, take_all, length-drop, length_push, map_more, get_or-replicate, length-set}
 use Rattle.std.proofs.lemmas.List.Folds.{list_any_more}
-use Rattle.std.proofs.lemmas.List.Sums.{sum_by-set}
+use Rattle.std.proofs.lemmas.List.Sums.{sum_by-set, count_by-le-length}
 use Rattle.std.proofs.lemmas.List.Splits.{slice_split_first, slice_split_none}
 use Rattle.std.proofs.lemmas.Bool.{cases_eq}
 use Rattle.std.proofs.lemmas.Bool.Decides.{nat_tests}
@@ -115,6 +115,11 @@ module _ (n line : ℕ) (items others left : List (List ℕ)) (ranked : List ℕ
           all_noted = omega (arith, sum_by-set (λ (t : Bool). cond t 1 0) seen value true false (omega (arith, small, so_far.room)), ap {B = ℕ} (λ (t : Bool). cond t 1 0) fresh, so_far.all_noted, long);
           noted = λ v low. rw (long, list_any_more (λ x. digits_value x == v) items k [] more, here.0, ← value_is) (noted_more v low (cases_eq v value));
         }
+
+    -- no more numbers can stand than are noted
+    pub few_read : get_or seen value false ≡ false → length ranked + 1 ≤ 513
+    few_read fresh =
+        omega (arith, sum_by-set (λ (t : Bool). cond t 1 0) seen value true false (omega (arith, small, so_far.room)), ap {B = ℕ} (λ (t : Bool). cond t 1 0) fresh, so_far.all_noted, length-set seen value true, so_far.room, count_by-le-length (λ (t : Bool). t) (set seen value true))
 
     -- one item more
     pub are_read-noted : (longer : List ℕ) (after : List Bool) → longer ≡ ranked ++ (value - 1) ∷ [] → after ≡ set seen value true → get_or seen value false ≡ false → AreRead n line items others longer after

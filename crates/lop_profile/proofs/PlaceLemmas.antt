@@ -139,3 +139,10 @@ rising-steps groups step p zero low = subst (λ (q : ℕ). get_or groups p 0 ≤
 rising-steps groups step p (suc k) low =
     let more : get_or groups (p + k) 0 ≤ get_or groups (p + k + 1) 0 = step (p + k) (omega (arith, low)) in
     subst (λ (q : ℕ). get_or groups p 0 ≤ get_or groups q 0) (omega arith) (omega (arith, more, rising-steps groups step p k (omega (arith, low))))
+
+-- they are the groups of what an order ranks
+pub AreGrouped-steps : (ranked groups : List ℕ) → length groups ≡ length ranked → ((p : ℕ) → p + 1 < length groups → get_or groups p 0 ≤ get_or groups (p + 1) 0) → AreGrouped ranked groups
+AreGrouped-steps ranked groups same step = record {
+  grouped = same;
+  rising = λ p q before low. subst (λ (k : ℕ). get_or groups p 0 ≤ get_or groups k 0) (omega (arith, before)) (rising-steps groups step p (q - p) (omega (arith, before, low)));
+}

@@ -20,7 +20,7 @@ pub loop-text-preserved : goal.loop-text-preserved
 loop-text-preserved c =
     let parts = c.parts_of-piece.ensures in
     let good = sym (bad_parts c.loop-text.inside c.in-Some.text.now _ _ _ parts.opens parts.closes parts.item) ∙ sym c.is_bad.ensures ∙ c.if-is_bad.false in
-    are_good-more _ _ _ c.loop-text.inside c.in-Some.text.now c.loop-text.invariant c.in-Some.ensures.steps _ good (c.leaves_open.ensures ∙ open_parts c.loop-text.inside c.in-Some.text.now _ _ parts.opens parts.closes)
+    are_good-more _ _ _ c.loop-text.inside c.in-Some.text.now c.loop-text.invariant c.in-Some.ensures.steps _ good (c.leaves_open-inside.ensures ∙ open_parts c.loop-text.inside c.in-Some.text.now _ _ parts.opens parts.closes)
 
 pub returns : goal.returns
 returns c = sym (bad_ties-end _ _ c.loop-text.inside c.loop-text.invariant c.in-None.ensures.steps.0)

@@ -1,12 +1,12 @@
-use Rattle.std.proofs.Common.{◌≡◌, List, ℕ, [], length, map, false, replicate, refl, subst, sym, ◌∙◌, ap, arith}
+use Rattle.std.proofs.Common.{◌≡◌, ◌-◌, List, ℕ, [], length, map, false, replicate, refl, subst, sym, ◌∙◌, ap, arith}
 use Rattle.lop_preflib.specs.Line.{pieces_in}
-use Rattle.std.proofs.lemmas.List.{length-map}
+use Rattle.std.proofs.lemmas.List.{length-map, length_push}
 use Rattle.lop_desk.specs.Number.{digits_value}
 use Rattle.lop_preflib.specs.Text.{is_number_to}
 use Rattle.lop_preflib.specs.Groups.{item_of}
 use Rattle.lop_preflib.specs.Pieces.{pieces_left}
-use Rattle.lop_preflib.proofs.ItemsLemmas.{AreRead, are_read-none, are_read-noted, items_refusal-bad, items_refusal-repeated, items_refusal-all, objects-all}
-use Rattle.lop_preflib.proofs.GroupsLemmas.{AreNumbered, are_numbered-none, are_numbered-more, numbered-all}
+use Rattle.lop_preflib.proofs.ItemsLemmas.{AreRead, are_read-none, are_read-noted, few_read, items_refusal-bad, items_refusal-repeated, items_refusal-all, objects-all}
+use Rattle.lop_preflib.proofs.GroupsLemmas.{AreNumbered, are_numbered-none, are_numbered-more, numbered-all, group_at-le, open_parts}
 use Rattle.lop_preflib.proofs.order.read_items.Goals as goal
 
 pub loop-text-init : goal.loop-text-init
@@ -28,6 +28,25 @@ returns-then-note-clause-refusal c =
     let number = c.in-Some-number_up_to.ensures in
     let item = c.parts_of-piece.ensures.item in
     items_refusal-repeated _ _ _ _ _ c.loop-text.ranking.objects.items c.loop-text.seen (item_of c.in-Some.text.now) c.loop-text.invariant.read (ap (map item_of) c.in-Some.ensures.steps) c.in-Some-number_up_to.value (ap (is_number_to c.args.n) (sym item) ∙ number.0) (number.1 ∙ ap digits_value item) (omega arith) (sym c.note.ensures.stood ∙ c.if-note.true)
+
+pub next_group-group-requires : goal.next_group-group-requires
+next_group-group-requires c =
+    let number = c.in-Some-number_up_to.ensures in
+    let item = c.parts_of-piece.ensures.item in
+    let few = few_read _ _ _ _ _ c.loop-text.ranking.objects.items c.loop-text.seen (item_of c.in-Some.text.now) c.loop-text.invariant.read (ap (map item_of) c.in-Some.ensures.steps) c.in-Some-number_up_to.value (ap (is_number_to c.args.n) (sym item) ∙ number.0) (number.1 ∙ ap digits_value item) (omega arith) (sym c.note.ensures.stood ∙ c.if-note.false) in
+    omega (arith, few, c.loop-text.invariant.numbered.group_is, group_at-le (pieces_in c.args.list.now) (length c.loop-text.ranking.objects.items))
+
+pub loop-text-preserved : goal.loop-text-preserved
+loop-text-preserved c =
+    let parts = c.parts_of-piece.ensures in
+    let number = c.in-Some-number_up_to.ensures in
+    let ranked = c.loop-text.ranking.objects.items in
+    let piece = c.in-Some.text.now in
+    let longer = c.in_ok-push.ensures.objects in
+    record {
+      read = are_read-noted _ _ _ _ _ ranked c.loop-text.seen (item_of piece) c.loop-text.invariant.read (ap (map item_of) c.in-Some.ensures.steps) c.in-Some-number_up_to.value (ap (is_number_to c.args.n) (sym parts.item) ∙ number.0) (number.1 ∙ ap digits_value parts.item) (omega arith) _ c.note.new.seen longer c.note.ensures.noted (sym c.note.ensures.stood ∙ c.if-note.false);
+      numbered = are_numbered-more (pieces_in c.args.list.now) _ _ (length ranked) c.loop-text.ranking.groups.items c.loop-text.inside c.loop-text.group piece c.requires.ties c.loop-text.invariant.numbered c.in-Some.ensures.steps _ _ _ _ (c.leaves_open-inside.ensures ∙ open_parts c.loop-text.inside piece _ _ parts.opens parts.closes) (ap length longer ∙ length_push ranked (c.in-Some-number_up_to.value - 1)) c.in_ok-push.ensures.groups c.next_group-group.ensures;
+    }
 
 pub returns-clause-objects : goal.returns-clause-objects
 returns-clause-objects c = objects-all _ _ _ _ c.loop-text.ranking.objects.items c.loop-text.seen c.loop-text.invariant.read (ap (map item_of) c.in-None.ensures.steps.0)

@@ -115,6 +115,7 @@ stands_in-behind n ranked groups p end j ranking grouped within of_end =
     later_group : (q e g h : ℕ) → e < q → g < h → ltb e q ≡ ltb g h
     later_group q e g h high more = grind (arith, nat_tests)
 
+    place : ℕ
     place = place_of ranked j
 
     tests : place < length ranked → ltb (end - 1) place ≡ ltb (get_or groups p 0) (get_or groups place 0)
@@ -135,14 +136,14 @@ stands_in-behind n ranked groups p end j ranking grouped within of_end =
 
 -- group numbers that are each the one before or the next never fall
 pub rising-steps : (groups : List ℕ) → ((p : ℕ) → p + 1 < length groups → get_or groups p 0 ≤ get_or groups (p + 1) 0) → (p k : ℕ) → p + k < length groups → get_or groups p 0 ≤ get_or groups (p + k) 0
-rising-steps groups step p zero low = subst (λ (q : ℕ). get_or groups p 0 ≤ get_or groups q 0) (omega arith) (omega arith)
+rising-steps groups step p zero low = subst (λ (q : ℕ). get_or groups p 0 ≤ get_or groups q 0) {x = p} {y = p + zero} (omega arith) (omega arith)
 rising-steps groups step p (suc k) low =
     let more : get_or groups (p + k) 0 ≤ get_or groups (p + k + 1) 0 = step (p + k) (omega (arith, low)) in
-    subst (λ (q : ℕ). get_or groups p 0 ≤ get_or groups q 0) (omega arith) (omega (arith, more, rising-steps groups step p k (omega (arith, low))))
+    subst (λ (q : ℕ). get_or groups p 0 ≤ get_or groups q 0) {x = p + k + 1} {y = p + suc k} (omega arith) (omega (arith, more, rising-steps groups step p k (omega (arith, low))))
 
 -- they are the groups of what an order ranks
 pub AreGrouped-steps : (ranked groups : List ℕ) → length groups ≡ length ranked → ((p : ℕ) → p + 1 < length groups → get_or groups p 0 ≤ get_or groups (p + 1) 0) → AreGrouped ranked groups
 AreGrouped-steps ranked groups same step = record {
   grouped = same;
-  rising = λ p q before low. subst (λ (k : ℕ). get_or groups p 0 ≤ get_or groups k 0) (omega (arith, before)) (rising-steps groups step p (q - p) (omega (arith, before, low)));
+  rising = λ p q before low. subst (λ (k : ℕ). get_or groups p 0 ≤ get_or groups k 0) {x = p + (q - p)} {y = q} (omega (arith, before)) (rising-steps groups step p (q - p) (omega (arith, before, low)));
 }

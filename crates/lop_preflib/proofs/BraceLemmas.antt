@@ -1,5 +1,5 @@
 -- Orders without braces.
-use Rattle.std.proofs.Common.{◌≡◌, ℕ, zero, suc, ◌+◌, ◌-◌, ◌<◌, ◌≤◌, ◌==◌, Bool, true, false, not, ◌&&◌, ◌||◌, cond, List, [], ◌∷◌, length, take, drop, map, get_or, inl, inr, refl, sym, ◌∙◌, ap, subst, arith}
+use Rattle.std.proofs.Common.{◌≡◌, ℕ, zero, suc, ◌+◌, ◌-◌, ◌<◌, ◌≤◌, ◌==◌, Bool, true, false, not, ◌&&◌, ◌||◌, cond, List, [], ◌∷◌, length, take, drop, get_or, refl, sym, ◌∙◌, ap, subst, arith}
 use Rattle.std.specs.List.{list_any, slice_split, onto_first, prefix_len, suffix_len, All}
 use Rattle.std.proofs.lemmas.List.{take_all}
 use Rattle.std.proofs.lemmas.List.Elements.{All-take, All-drop, All-map}
@@ -8,7 +8,7 @@ use Rattle.std.proofs.lemmas.List.Splits.{slice_split-cons_yes, slice_split-cons
 use Rattle.std.proofs.lemmas.Bool.Decides.{nat_tests}
 use Rattle.lop_preflib.specs.Text.{is_blank, trim, without_front}
 use Rattle.lop_preflib.specs.Line.{is_comma, pieces_in}
-use Rattle.lop_preflib.specs.Groups.{opens, closes, without_opening, without_closing, ends_closing, item_of, is_open, is_brace, is_bad_piece, is_bad_at, are_bad_ties}
+use Rattle.lop_preflib.specs.Groups.{opens, closes, without_opening, without_closing, ends_closing, item_of, is_open, is_brace, is_bad_piece, are_bad_ties}
 use Rattle.lop_preflib.proofs.TextLemmas.{none_any}
 use Rattle.lop_preflib.proofs.GroupsLemmas.{IsBalanced, balanced-more, is_open-balanced, bad_ties-none}
 

@@ -1,5 +1,5 @@
 -- What reading one line does.
-use Rattle.std.specs.Prelude.{◌≡◌, ℕ, ◌+◌, ◌≤◌, ◌^◌, List, [], ◌∷◌, ◌++◌, length, Option, None, Some, cond, All}
+use Rattle.std.specs.Prelude.{◌≡◌, ℕ, ◌+◌, ◌≤◌, List, [], ◌∷◌, ◌++◌, length, Option, None, Some, cond, All}
 use Rattle.std.specs.Option.{option_map, unwrap_or}
 use Rattle.lop_desk.specs.Number.{digits_value}
 use Rattle.lop_preflib.specs.First.{or_else}

@@ -121,9 +121,9 @@ stands_in-behind n ranked groups p end j ranking grouped within of_end =
     tests : place < length ranked → ltb (end - 1) place ≡ ltb (get_or groups p 0) (get_or groups place 0)
     tests inside = elim (cases_lt place end) [
       | inl before ↦ elim (cases_lt place p) [
-          | inl under ↦ earlier_group place (end - 1) (get_or groups p 0) (get_or groups place 0) (omega (arith, before)) (grouped.rising place p (omega (arith, under)) (omega (arith, within, grouped.grouped)))
-          | inr over ↦ earlier_group place (end - 1) (get_or groups p 0) (get_or groups place 0) (omega (arith, before)) (omega (arith, of_end.same place over before))
-        ]
+        | inl under ↦ earlier_group place (end - 1) (get_or groups p 0) (get_or groups place 0) (omega (arith, before)) (grouped.rising place p (omega (arith, under)) (omega (arith, within, grouped.grouped)))
+        | inr over ↦ earlier_group place (end - 1) (get_or groups p 0) (get_or groups place 0) (omega (arith, before)) (omega (arith, of_end.same place over before))
+      ]
       | inr after ↦
           let low : end < length groups = omega (arith, after, inside, grouped.grouped) in
           later_group place (end - 1) (get_or groups p 0) (get_or groups place 0) (omega (arith, after, of_end.behind))

@@ -1,4 +1,4 @@
-use Rattle.std.proofs.Common.{◌≡◌, List, ℕ, false, subst, sym, ◌∙◌, ap, arith}
+use Rattle.std.proofs.Common.{◌≡◌, List, ℕ, false, subst, sym, ◌∙◌, ap}
 use Rattle.lop_preflib.specs.Line.{pieces_in}
 use Rattle.lop_preflib.specs.Pieces.{pieces_left}
 use Rattle.lop_preflib.proofs.GroupsLemmas.{AreGood, are_good-none, are_good-more, bad_ties-here, bad_ties-end, bad_parts, open_parts}

@@ -1,4 +1,4 @@
-use Rattle.std.proofs.Common.{◌≡◌, ◌-◌, List, ℕ, [], length, map, false, replicate, refl, subst, sym, ◌∙◌, ap, arith}
+use Rattle.std.proofs.Common.{◌≡◌, ◌-◌, List, ℕ, length, map, false, replicate, subst, sym, ◌∙◌, ap, arith}
 use Rattle.lop_preflib.specs.Line.{pieces_in}
 use Rattle.std.proofs.lemmas.List.{length-map, length_push}
 use Rattle.lop_desk.specs.Number.{digits_value}

@@ -1,4 +1,3 @@
-use Rattle.std.proofs.Common.{◌<◌, ℕ, length, arith}
 use Rattle.lop_preflib.specs.Profile.{IsCounted, order_at}
 use Rattle.lop_profile.proofs.PlaceLemmas.{AreGrouped-steps}
 use Rattle.lop_profile.proofs.profile.count_order.Goals as goal

@@ -11,7 +11,10 @@ pub(crate) struct Ranking {
 }
 
 impl Ranking {
-    pub(crate) fn new(alloc: Global) -> Ranking {
+    pub(crate) fn new(alloc: Global) -> Ranking
+        ensures objects { result.objects.items ≡ [] }
+        ensures groups { result.groups.items ≡ [] }
+    {
         Ranking {
             objects: Vec::new(alloc),
             groups: Vec::new(alloc),

@@ -29,14 +29,22 @@ def is_whole(word):
     return len(digits) > 0 and all(48 <= it <= 57 for it in digits)
 
 
+def number_of(word):
+    """The whole number that a decimal number's digits give without the point, and its decimals, or None."""
+    front, _, behind = (word[1:] if word[:1] in (b"+", b"-") else word).partition(b".")
+    if not is_digits(front + behind):
+        return None
+    return int(front + behind) * (-1 if word[:1] == b"-" else 1), len(behind)
+
+
 def read_lolib(data):
-    """The rows of a LOLIB text."""
+    """The rows of a LOLIB text in units of 10^-k, and k."""
     end, words = 0, []
     for line in data.split(b"\n"):
         here = [(end + at, word) for at, word in words_of(line)]
         end += len(line) + 1
         if here:
-            if all(is_whole(word) for _, word in here):
+            if all(number_of(word) for _, word in here):
                 end -= len(line) + 1
             words = [(end + at, word) for at, word in words_of(data[end:])]
             break
@@ -50,16 +58,24 @@ def read_lolib(data):
         raise Refused(f"size-range {n}")
     entries = []
     for index, (_, word) in enumerate(words[1 : 1 + n * n]):
-        if not is_whole(word):
+        found = number_of(word)
+        if found is None:
             raise Refused(f"bad-entry {index}")
-        if abs(int(word)) > LIMIT:
+        if found[1] > 6:
+            raise Refused(f"too-fine {index}")
+        if abs(found[0]) > LIMIT:
             raise Refused(f"too-wide {index}")
-        entries.append(int(word))
+        entries.append(found)
     if len(entries) < n * n:
         raise Refused(f"short {len(entries)}")
-    rows = [entries[i * n : i * n + n] for i in range(n)]
+    k = max(decimals for _, decimals in entries)
+    units = [digits * 10 ** (k - decimals) for digits, decimals in entries]
+    for index, number in enumerate(units):
+        if abs(number) > LIMIT:
+            raise Refused(f"too-wide {index}")
+    rows = [units[i * n : i * n + n] for i in range(n)]
     heavy(sum(abs(rows[i][j]) for i in range(n) for j in range(n) if i != j))
-    return rows
+    return rows, k
 
 
 def heavy(total):
@@ -81,10 +97,11 @@ class Profile:
 
     def rows(self):
         rows = [[0] * self.n for _ in range(self.n)]
-        for count, ranked in self.orders:
-            for place, before in enumerate(ranked):
-                for after in ranked[place + 1 :]:
-                    rows[before][after] += count
+        for count, groups in self.orders:
+            for place, group in enumerate(groups):
+                for before in group:
+                    for after in sum(groups[place + 1 :], []):
+                        rows[before][after] += count
         heavy(sum(map(sum, rows)))
         return rows
 
@@ -135,27 +152,43 @@ def order_line(line, n, number):
     count = trimmed(count)
     if not is_digits(count) or not 1 <= int(count) <= LIMIT:
         raise Refused(f"bad-count line {number}")
-    if b"{" in items or b"}" in items:
-        raise Refused(f"ties line {number}")
-    ranked = []
+    grouped = []
     for item in items.split(b","):
         item = trimmed(item)
+        opens = item.startswith(b"{")
+        item = item[1:] if opens else item
+        closes = item.endswith(b"}")
+        grouped.append((opens, trimmed(item[:-1] if closes else item), closes))
+    is_open = False
+    for opens, item, closes in grouped:
+        if opens and is_open or closes and not (opens or is_open) or b"{" in item or b"}" in item:
+            raise Refused(f"ties line {number}")
+        is_open = (is_open or opens) and not closes
+    if is_open:
+        raise Refused(f"ties line {number}")
+    ranked, groups = [], []
+    for opens, item, closes in grouped:
         if not is_digits(item) or not 1 <= int(item) <= n:
             raise Refused(f"bad-alternative line {number}")
         if int(item) - 1 in ranked:
             raise Refused(f"repeated line {number}")
         ranked.append(int(item) - 1)
-    return int(count), ranked
+        if opens or not is_open:
+            groups.append([])
+        groups[-1].append(ranked[-1])
+        is_open = (is_open or opens) and not closes
+    return int(count), groups
 
 
 def read_input(format, data):
-    """The rows, and the profile where there is one."""
+    """The rows, the profile where there is one, and k: the rows are in units of 10^-k."""
     if len(data) > MOST_BYTES:
         raise Refused("too-long")
     if format == "lolib":
-        return read_lolib(data), None
+        rows, k = read_lolib(data)
+        return rows, None, k
     profile = read_preflib(data)
-    return profile.rows(), profile
+    return profile.rows(), profile, 0
 
 
 def read_order(data, n):
@@ -188,6 +221,13 @@ def total_of(rows):
     return sum(rows[i][j] for i in range(len(rows)) for j in range(len(rows)) if i != j)
 
 
+def printed(number, k):
+    """A number of units of 10^-k with its k decimals."""
+    if k == 0:
+        return str(number)
+    return ("-" if number < 0 else "") + f"{abs(number) // 10**k}.{abs(number) % 10**k:0{k}d}"
+
+
 def linearity(value, total):
     if total <= 0 or value < 0:
         return "none"
@@ -199,9 +239,9 @@ def of_profile(profile, value, total):
     return [] if profile is None else [f"voters {profile.voters()}", f"disagreements {total - value}"]
 
 
-def value_lines(rows, profile, order):
+def value_lines(rows, profile, k, order):
     value, total = weight(rows, order), total_of(rows)
-    return [f"objects {len(rows)}", f"value {value}", f"total {total}", f"linearity {linearity(value, total)}"] + of_profile(profile, value, total)
+    return [f"objects {len(rows)}", f"value {printed(value, k)}", f"total {printed(total, k)}", f"linearity {linearity(value, total)}"] + of_profile(profile, value, total)
 
 
 def best_value(rows):

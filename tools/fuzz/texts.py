@@ -1,10 +1,10 @@
 """Random texts of the four kinds, and changes to them."""
 import random
 
-NUMBERS = [b"0", b"1", b"2", b"-1", b"+3", b"007", b"-0", b"4.5", b"x", b"", b"1000000000000000000", b"1000000000000000001",
+NUMBERS = [b"0", b"1", b"2", b"-1", b"+3", b"007", b"-0", b"4.5", b".5", b"-3.", b".", b"0.0000001", b"1.000000000000000000", b"x", b"", b"1000000000000000000", b"1000000000000000001",
            b"-1000000000000000001", b"9223372036854775807", b"9223372036854775808", b"18446744073709551616", b"512", b"513",
            b"65536", b"65537", b"1048576", b"1048577", b"99999999999999999999999999999999999999999"]
-BYTES = b"0123456789 \n\r\t-+:,#{}abz\x00\x0c\xff"
+BYTES = b"0123456789 \n\r\t-+.:,#{}abz\x00\x0c\xff"
 
 
 def matrix(draw, n):
@@ -21,16 +21,39 @@ def matrix(draw, n):
     return [[entry() for _ in range(n)] for _ in range(n)]
 
 
+def number(draw, entry, most):
+    """An entry with a point somewhere, and at most so many decimals."""
+    if most == 0 or draw.random() < 0.3:
+        return str(entry)
+    behind = draw.randrange(most + 1)
+    digits = str(abs(entry)).rjust(behind, "0")
+    return ("-" if entry < 0 else draw.choice(["", "", "+"])) + digits[: len(digits) - behind] + "." + digits[len(digits) - behind :]
+
+
 def lolib(draw, rows):
     n = len(rows)
+    most = draw.choice([0, 0, 0, 1, 2, 6, 6, 7])
     gap = lambda: draw.choice([b" ", b" ", b" ", b"\n", b"\t", b"\r\n", b"  "])
     title = draw.choice([b""] * 4 + [b"Belgium 1975\n", b"\n\nx 1 2\n", b"3 sectors\r\n"])
     body = str(n).encode() + draw.choice([b"\n", b" ", b"\r\n"])
     for row in rows:
         for entry in row:
-            body += str(entry).encode() + gap()
+            body += number(draw, entry, most).encode() + gap()
         body += b"\n"
     return title + body + draw.choice([b""] * 3 + [b"x y\n", b"12", b"\n\n"])
+
+
+def tied(draw, items):
+    """The items of an order, some of them in groups."""
+    place = 0
+    while place < len(items):
+        if draw.random() < 0.2:
+            end = draw.randrange(place, len(items))
+            items[place] = draw.choice([b"{", b"{", b"{ "]) + items[place]
+            items[end] = items[end] + draw.choice([b"}", b"}", b" }"])
+            place = end
+        place += 1
+    return items
 
 
 def preflib(draw, n):
@@ -41,9 +64,9 @@ def preflib(draw, n):
     for _ in range(draw.randrange(1, 6)):
         ranked = list(range(1, n + 1))
         draw.shuffle(ranked)
-        ranked = ranked[: draw.randrange(1, n + 1)]
+        ranked = tied(draw, [b"%d" % it for it in ranked[: draw.randrange(1, n + 1)]])
         count = draw.choice([1, 2, 7, 10**6, 10**18])
-        lines.append(b"%d:%s%s" % (count, draw.choice([b" ", b"", b"\t"]), draw.choice([b",", b", ", b" ,"]).join(b"%d" % it for it in ranked)))
+        lines.append(b"%d:%s%s" % (count, draw.choice([b" ", b"", b"\t"]), draw.choice([b",", b", ", b" ,"]).join(ranked)))
     return b"\n".join(lines) + draw.choice([b"\n", b"", b"\r\n"])
 
 

@@ -39,6 +39,12 @@ terms_of-longer cuts more terms listed =
     map_agree (λ t. record { cut = cut_at (cuts ++ more) t.cut; multiplier = t.multiplier }) (λ t. record { cut = cut_at cuts t.cut; multiplier = t.multiplier }) terms
     (λ k d lt. ap (λ (c : CutKind). record { cut = c; multiplier = (get_or terms k d).multiplier }) (get_or_append_left cuts more no_cut (get_or terms k d).cut (listed k d lt)))
 
+-- more cuts at the end: each number is still in the list
+pub listed_longer : (cuts more seen : List CutKind) (terms : List NumberedTerm) → seen ≡ cuts ++ more → All (λ t. t.cut < length cuts) terms → All (λ t. t.cut < length seen) terms
+listed_longer cuts more seen terms e listed =
+    let long : length seen ≡ length cuts + length more = ap length e ∙ length-append cuts more in
+    All-weaker (λ (u : NumberedTerm). u.cut < length cuts) (λ (u : NumberedTerm). u.cut < length seen) (λ u l. omega arith) terms listed
+
 -- the terms so far bring no more new cuts than all
 new_count-le : (cuts : List CutKind) (terms : List Term) (i : ℕ) → length (new_cuts cuts (take i terms)) ≤ length (new_cuts cuts terms)
 new_count-le cuts terms i =

@@ -4,7 +4,7 @@ ghost use Rattle.lop_core.specs.Records.{AreDifferentCuts, is_new};
 ghost use Rattle.lop_core.specs.CutIndex.{IsCutIndex, IsNumberOf, IsGap, ArePending, HavePendingRooms};
 
 use crate::room::put_last;
-use lop_cuts::{Cut, CutKind};
+use lop_cuts::{Cut, CutKind, Cycle};
 use std::alloc::{AllocError, Global};
 use std::cmp::Ordering;
 use std::marker::Model;
@@ -63,8 +63,8 @@ fn search(cuts: &[Cut], index: &[u32], cut: &Cut) -> Result<u32, usize>
 }
 
 /// Mixes objects into a number of 32 bits, the upper ones best.
-fn mixed(objects: &[u16]) -> u32 {
-    let mut mix: u32 = 0;
+fn mixed(from: u32, objects: &[u16]) -> u32 {
+    let mut mix = from;
     for object in objects {
         mix = mix
             .wrapping_add(u32::from(*object))
@@ -73,21 +73,30 @@ fn mixed(objects: &[u16]) -> u32 {
     mix
 }
 
-/// The slot of a cut: of a dicycle by all its objects, of the others by some.
+/// Mixes the objects of cycles, in turn.
+fn mixed_cycles(cycles: &[Cycle]) -> u32 {
+    let mut mix = 0;
+    for cycle in cycles {
+        mix = mixed(mix, cycle.objects());
+    }
+    mix
+}
+
+/// The slot of a cut, by all its objects.
 fn slot_of(cut: &Cut) -> usize {
     let mix = match cut.kind() {
-        CutKind::Dicycle(objects) => mixed(objects),
-        CutKind::Fence { u, w: _ } => mixed(u),
-        CutKind::Ladder(cycles) => cycles.first().map_or(0, |cycle| mixed(cycle.objects())),
+        CutKind::Dicycle(objects) => mixed(0, objects),
+        CutKind::Fence { u, w } => mixed(mixed(0, u), w),
+        CutKind::Ladder(cycles) => mixed_cycles(cycles),
     };
     (mix >> 16) as usize
 }
 
-/// The number that the cut's slot notes, if it is this cut's.
-fn noted(cuts: &[Cut], notes: &[u32], cut: &Cut) -> Option<u32>
+/// The number that a slot notes, if it is this cut's.
+fn noted(cuts: &[Cut], notes: &[u32], slot: usize, cut: &Cut) -> Option<u32>
     ensures { IfSome result (λ number. IsNumberOf cuts.now cut.now number) }
 {
-    let number = *notes.get(slot_of(cut))?;
+    let number = *notes.get(slot)?;
     if (number as usize) < cuts.len() && cuts[number as usize] == *cut {
         Some(number)
     } else {
@@ -97,23 +106,29 @@ fn noted(cuts: &[Cut], notes: &[u32], cut: &Cut) -> Option<u32>
 
 /// The number of the cut, or else the place in the index where it belongs. O(1) where its slot notes it, and else
 /// O(log of the number of cuts).
-fn find(cuts: &[Cut], index: &[u32], notes: &[u32], cut: &Cut) -> Result<u32, usize>
+fn find(
+    cuts: &[Cut],
+    index: &[u32],
+    notes: &[u32],
+    slot: usize,
+    cut: &Cut,
+) -> Result<u32, usize>
     requires { IsCutIndex cuts.now index.now }
     ensures found { IfOk result (λ number. IsNumberOf cuts.now cut.now number) }
     ensures gap { IfErr result (λ place. IsGap cuts.now index.now cut.now place) }
 {
-    match noted(cuts, notes, cut) {
+    match noted(cuts, notes, slot, cut) {
         Some(number) => Ok(number),
         None => search(cuts, index, cut),
     }
 }
 
-/// Notes the number in the cut's slot, and answers it.
-fn note(notes: &mut [u32], cut: &Cut, number: u32) -> u32
+/// Notes the number in a slot, and answers it.
+fn note(notes: &mut [u32], slot: usize, number: u32) -> u32
     ensures { result ≡ number }
 {
-    if let Some(slot) = notes.get_mut(slot_of(cut)) {
-        *slot = number;
+    if let Some(noted) = notes.get_mut(slot) {
+        *noted = number;
     }
     number
 }
@@ -280,7 +295,8 @@ impl CutIndex {
         ensures { result ≡ is_new self.now cut.now }
     {
         let known = self.index.len();
-        match find(first_cuts(&self.cuts, known), &self.index, &self.notes, cut) {
+        let slot = slot_of(cut);
+        match find(first_cuts(&self.cuts, known), &self.index, &self.notes, slot, cut) {
             Ok(_) => false,
             Err(_) => search(later_cuts(&self.cuts, known), &self.fresh, cut).is_err(),
         }
@@ -295,8 +311,9 @@ impl CutIndex {
     {
         let _kind = cut.kind();
         let known = self.index.len();
-        match find(first_cuts(&self.cuts, known), &self.index, &self.notes, cut) {
-            Ok(number) => note(&mut self.notes, cut, number),
+        let slot = slot_of(cut);
+        match find(first_cuts(&self.cuts, known), &self.index, &self.notes, slot, cut) {
+            Ok(number) => note(&mut self.notes, slot, number),
             Err(place) => {
                 let number = number_fresh(
                     &mut self.cuts,
@@ -306,7 +323,7 @@ impl CutIndex {
                     cut,
                     place,
                 );
-                note(&mut self.notes, cut, number)
+                note(&mut self.notes, slot, number)
             }
         }
     }

@@ -1,15 +1,20 @@
 // The records of the nodes, in rooms that are made once.
-ghost use Rattle.std.specs.Prelude.{◌≡◌, ◌+◌, ◌*◌, ◌^◌, ◌<◌, ◌≤◌, ◌==◌, ◌&&◌, ◌||◌, [], ◌++◌, length, true, All, AllPairs, IfOk, IfSome, IfNone, vec_len, vec_capacity, min, nat_le};
+ghost use Rattle.std.specs.Prelude.{◌≡◌, ◌+◌, ◌*◌, ◌^◌, ◌<◌, ◌≤◌, ◌==◌, ◌&&◌, ◌||◌, [], ◌++◌, length, true, All, AllPairs, IfOk, IfSome, IfNone, if◌then◌else◌, ◌∷◌, vec_len, vec_capacity, min, nat_le};
 ghost use Rattle.std.specs.List.{list_all};
 ghost use Rattle.lop_core.specs.Core.{root_book};
-ghost use Rattle.lop_core.specs.Records.{AreDifferentCuts, IsAdded, IsTakenOrKept, cut_at, cut_room, finds_room, has_term, is_own, is_same, new_cuts, record_at, same_cut, scaled_of, term_room as term_room_of, terms_of, with_children};
+ghost use Rattle.lop_core.specs.Records.{AreDifferentCuts, IsAdded, IsTakenOrKept, cut_at, cut_room, finds_room, has_term, is_new, is_own, is_same, new_cuts, record_at, same_cut, scaled_of, term_room as term_room_of, terms_of, with_children};
 ghost use Rattle.lop_leaf.specs.Record.{IsMultiplier, IsScaledTerms};
+ghost use Rattle.lop_core.specs.CutIndex.{IsNumberOf};
 ghost use Rattle.lop_core.specs.Kept.{AreKept, book_of, record_of};
 
 use crate::cut_index::{CUT_ROOM, CutIndex};
 use crate::room::put_last;
+use lop_cuts::Cut;
 use lop_leaf::{LeafRecord, MAX_TERMS, Term};
 use std::alloc::{AllocError, Global};
+
+/// How many terms of a node's record are looked at before a cut is searched.
+const AHEAD: usize = 16;
 
 /// A term of a node's record.
 #[derive(Clone, Copy, Debug, PartialEq, Eq)]
@@ -69,9 +74,57 @@ fn has_cut_room(cuts: &CutIndex, shown: &LeafRecord) -> bool
     cuts.len() + shown.len() <= CUT_ROOM || cuts.len() + new_count(cuts, shown) <= CUT_ROOM
 }
 
-/// Writes the terms with the numbers of their cuts, and puts the new ones at the end of the list of cuts.
-fn number_terms(cuts: &mut CutIndex, shown: &LeafRecord, fresh: &mut Vec<NumberedTerm>)
+/// The number of the cut, where one of the next few terms of the record is of this cut. Then the place moves behind that
+/// term. O(1).
+fn number_ahead(
+    cuts: &CutIndex,
+    own: &[NumberedTerm],
+    place: &mut usize,
+    cut: &Cut,
+) -> Option<u32>
+    requires listed { All (λ t. t.cut < length cuts.now) own.now }
+    ensures { IfSome result (λ number. IsNumberOf cuts.now cut.now number) }
+{
+    let end = own.len().min(place.saturating_add(AHEAD));
+    for index in *place..end {
+        let number = own[index].cut;
+        if *cuts.get(number) == *cut {
+            *place = index + 1;
+            return Some(number);
+        }
+    }
+    None
+}
+
+/// The number of the cut, which is put at the end of the list where it isn't there yet. The next terms of the record are
+/// looked at first.
+fn number_of(
+    cuts: &mut CutIndex,
+    own: &[NumberedTerm],
+    place: &mut usize,
+    cut: &Cut,
+) -> u32
+    requires room { is_new cuts.old cut.now ≡ true → length cuts.old < 65536 }
+    requires listed { All (λ t. t.cut < length cuts.old) own.now }
+    ensures cuts { cuts.new ≡ (if is_new cuts.old cut.now then cuts.old ++ cut.now ∷ [] else cuts.old) }
+    ensures number { IsNumberOf cuts.new cut.now result }
+{
+    match number_ahead(cuts, own, place, cut) {
+        Some(number) => number,
+        None => cuts.number_of(cut),
+    }
+}
+
+/// Writes the terms with the numbers of their cuts, and puts the new ones at the end of the list of cuts. Terms that
+/// stand in the order of the node's own are numbered without a search.
+fn number_terms(
+    cuts: &mut CutIndex,
+    shown: &LeafRecord,
+    own: &[NumberedTerm],
+    fresh: &mut Vec<NumberedTerm>,
+)
     requires room { length cuts.old + length (new_cuts cuts.old shown.now.terms) ≤ 65536 }
+    requires own { All (λ t. t.cut < length cuts.old) own.now }
     requires for_terms { 4096 ≤ vec_capacity fresh.old }
     ensures cuts { cuts.new ≡ cuts.old ++ new_cuts cuts.old shown.now.terms }
     ensures terms { terms_of cuts.new fresh.new.items ≡ shown.now.terms }
@@ -80,10 +133,11 @@ fn number_terms(cuts: &mut CutIndex, shown: &LeafRecord, fresh: &mut Vec<Numbere
     ensures few { length cuts.new ≤ 65536 }
     ensures for_terms { vec_capacity fresh.old ≤ vec_capacity fresh.new }
 {
+    let mut place = 0;
     fresh.clear();
     for index in 0..shown.len() {
         let term = shown.term(index);
-        let cut = cuts.number_of(&term.cut);
+        let cut = number_of(cuts, own, &mut place, &term.cut);
         put_last(
             fresh,
             NumberedTerm {
@@ -162,6 +216,15 @@ fn has_terms(cuts: &CutIndex, own: &[NumberedTerm], shown: &LeafRecord) -> bool
     true
 }
 
+/// The terms of a span of the room.
+fn terms_in(room: &[NumberedTerm], span: Span) -> &[NumberedTerm]
+    requires { span.first + span.count ≤ length room.now }
+    ensures { result.now ≡ (record_of room.now span).terms }
+{
+    let first = span.first as usize;
+    &room[first..first + span.count as usize]
+}
+
 /// Whether a record has the scale and the terms of another, in whatever order.
 fn is_same(cuts: &CutIndex, room: &[NumberedTerm], span: Span, shown: &LeafRecord) -> bool
     requires inside { span.first + span.count ≤ length room.now }
@@ -169,8 +232,7 @@ fn is_same(cuts: &CutIndex, room: &[NumberedTerm], span: Span, shown: &LeafRecor
     ensures same { result ≡ is_same cuts.now (record_of room.now span) shown.now }
     ensures shown { IsScaledTerms shown.now }
 {
-    let first = span.first as usize;
-    let own = &room[first..first + span.count as usize];
+    let own = terms_in(room, span);
     span.scale == shown.scale() && own.len() == shown.len() && has_terms(cuts, own, shown)
 }
 
@@ -229,7 +291,7 @@ impl Records {
     }
 
     /// Adds this record, which finds room, and gives the node its number. O(terms, each with the log of the number of
-    /// terms and cuts), and O(the number of cuts) for each new cut.
+    /// terms and cuts), and O(the number of cuts) where one is new.
     fn add(&mut self, node: usize, shown: &LeafRecord)
         requires kept { AreKept self.old }
         requires room { finds_room self.old.term_room (book_of self.old) shown.now.terms ≡ true }
@@ -242,7 +304,9 @@ impl Records {
         ensures for_nodes { vec_capacity self.new.numbers ≡ vec_capacity self.old.numbers }
         ensures for_records { vec_capacity self.old.spans ≤ vec_capacity self.new.spans }
     {
-        number_terms(&mut self.cuts, shown, &mut self.fresh);
+        let span = self.span(node);
+        let own = terms_in(&self.terms, span);
+        number_terms(&mut self.cuts, shown, own, &mut self.fresh);
         self.fresh.sort_unstable_by_key(|term| term.cut);
         let first = self.terms.len() as u32;
         let number = self.spans.len() as u32;

@@ -3,6 +3,7 @@ use Rattle.std.specs.Prelude.{◌≡◌, ℕ, ◌+◌, ◌*◌, ◌<◌, ◌≤�
 use Rattle.lop_model.specs.Order.{IsOrder}
 use Rattle.lop_model.specs.Matrix.{Matrix, weight}
 use Rattle.lop_cuts.specs.Kind.{FitsCut}
+use Rattle.lop_leaf.specs.declared.leaf_record.TheConstants.{MAX_TERMS}
 use Rattle.lop_leaf.specs.Bound.{CertifiesUnder}
 use Rattle.lop_leaf.specs.Ticket.{TicketFields}
 use Rattle.lop_leaf.specs.Evaluated.{EvaluatedFields}
@@ -45,8 +46,8 @@ pub record AreRecorded (core : CoreFields) : Type 0 where
   pub same_length : length core.book.records ≡ length core.state.nodes
   pub certified : AreCertified core.problem.weights core.book core.state.nodes
   pub fit : All (FitsCut core.problem.weights.size) core.book.cuts
-  pub terms : core.book.used ≤ 4096 * room_count core.journal
-  pub cuts : length core.book.cuts ≤ 4096 * room_count core.journal
+  pub terms : core.book.used ≤ MAX_TERMS * room_count core.journal
+  pub cuts : length core.book.cuts ≤ MAX_TERMS * room_count core.journal
   pub kept : length core.book.kept ≤ core.state.evaluated + 1
 
 -- the core after an event is noted

@@ -1,6 +1,7 @@
 -- How the records lie in their rooms.
 use Rattle.std.specs.Prelude.{◌+◌, ◌≤◌, List, length, map, take, drop, All}
 use Rattle.std.specs.Vec.{vec_capacity}
+use Rattle.lop_leaf.specs.declared.leaf_record.TheConstants.{MAX_TERMS}
 use Rattle.lop_core.specs.declared.records.NumberedTerm.{NumberedTerm}
 use Rattle.lop_core.specs.declared.records.Span.{Span}
 use Rattle.lop_core.specs.declared.records.Records.{Records}
@@ -26,4 +27,4 @@ pub record AreKept (r : Records) : Type 0 where
   pub few_terms : r.term_room ≤ term_room 1000000
   pub for_terms : r.term_room ≤ vec_capacity r.terms
   pub within : length r.terms.items ≤ r.term_room
-  pub for_fresh : 4096 ≤ vec_capacity r.fresh
+  pub for_fresh : MAX_TERMS ≤ vec_capacity r.fresh

@@ -6,6 +6,7 @@ use Rattle.lop_cuts.specs.declared.kind.CutKind.TheVariants.{Dicycle}
 use Rattle.lop_cuts.specs.contracts.kind.CutKindPartialEq.TheImpl.{ghosts as of_kind}
 use Rattle.lop_cuts.specs.Kind.{IsCut}
 use Rattle.lop_cuts.specs.Lagrangian.{Term}
+use Rattle.lop_leaf.specs.declared.leaf_record.TheConstants.{MAX_SCALE, MAX_TERMS}
 use Rattle.lop_leaf.specs.Record.{ScaledTerms, IsMultiplier}
 use Rattle.lop_core.specs.declared.records.NumberedTerm.{NumberedTerm}
 
@@ -49,8 +50,8 @@ number_at numbers node = slice_index_or numbers node 0
 -- a scale from 1 to 65,536, and at most 4,096 terms whose cut numbers rise and name cuts of the list
 pub record IsNodeRecord (count : ℕ) (r : NodeRecord) : Type 0 where
   pub positive : 1 ≤ r.scale
-  pub within_limit : r.scale ≤ 65536
-  pub bounded_count : length r.terms ≤ 4096
+  pub within_limit : r.scale ≤ MAX_SCALE
+  pub bounded_count : length r.terms ≤ MAX_TERMS
   pub rising : AllPairs (λ t u. t.cut < u.cut) r.terms
   pub listed : All (λ t. t.cut < count) r.terms
   pub multipliers : All (λ t. IsMultiplier t.multiplier) r.terms
@@ -89,7 +90,7 @@ new_cuts cuts terms = map (λ t. t.cut) (filter (λ t. is_new cuts t.cut) terms)
 
 -- for how many terms there is room under a budget of nodes
 abbrev pub term_room : ℕ → ℕ
-term_room budget = 4096 + min (1024 * budget) 67108864
+term_room budget = MAX_TERMS + min (1024 * budget) 67108864
 
 -- for how many cuts there is room
 abbrev pub cut_room : ℕ

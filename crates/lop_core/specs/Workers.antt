@@ -1,6 +1,7 @@
 -- What several workers rely on: what stands still while a node is out, and what never changes.
-use Rattle.std.specs.Prelude.{◌≡◌, ℕ, ℤ, pos, ◌≤ℤ◌, ◌^◌, neg_ℤ, zero, suc, List, ◌∷◌}
+use Rattle.std.specs.Prelude.{◌≡◌, ℕ, ℤ, pos, ◌≤ℤ◌, neg_ℤ, zero, suc, List, ◌∷◌}
 use Rattle.std.specs.List.{flat_map}
+use Rattle.lop_model.specs.declared.weights.TheConstants.{MAX_ABSOLUTE_SUM}
 use Rattle.lop_leaf.specs.Ticket.{TicketFields}
 use Rattle.lop_leaf.specs.Evaluated.{EvaluatedFields}
 use Rattle.lop_leaf.specs.Record.{IsScaledTerms}
@@ -15,10 +16,10 @@ use Rattle.lop_core.specs.Core.{CoreFields, HasHistory, AreRecorded, IsTake, IsR
 abbrev pub fixed_of : Problem → List ℤ
 fixed_of problem = pos problem.weights.size ∷ pos problem.budget ∷ problem.start ∷ flat_map (λ (row : List ℤ). row) problem.weights.rows
 
--- from -10^18 to 10^18
+-- at most the greatest absolute sum of weights, in absolute value
 pub record IsInRange (value : ℤ) : Type 0 where
-  pub low : neg_ℤ (pos (10 ^ 18)) ≤ℤ value
-  pub high : value ≤ℤ pos (10 ^ 18)
+  pub low : neg_ℤ MAX_ABSOLUTE_SUM ≤ℤ value
+  pub high : value ≤ℤ MAX_ABSOLUTE_SUM
 
 -- the node has the bound and the path that it had
 pub record StandsStill (old new : SearchState) (node : ℕ) : Type 0 where

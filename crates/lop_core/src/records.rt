@@ -3,6 +3,7 @@ ghost use Rattle.std.specs.Prelude.{◌≡◌, ◌+◌, ◌*◌, ◌^◌, ◌<�
 ghost use Rattle.std.specs.List.{list_all};
 ghost use Rattle.lop_core.specs.Core.{root_book};
 ghost use Rattle.lop_core.specs.Records.{AreDifferentCuts, IsAdded, IsTakenOrKept, cut_at, cut_room, finds_room, has_term, is_new, is_own, is_same, new_cuts, record_at, same_cut, scaled_of, term_room as term_room_of, terms_of, with_children};
+ghost use Rattle.lop_leaf.specs.declared.leaf_record.TheConstants.{MAX_TERMS};
 ghost use Rattle.lop_leaf.specs.Record.{IsMultiplier, IsScaledTerms};
 ghost use Rattle.lop_core.specs.CutIndex.{IsNumberOf};
 ghost use Rattle.lop_core.specs.Kept.{AreKept, book_of, record_of};
@@ -55,7 +56,7 @@ fn term_room(budget: u32) -> usize
 /// How many cuts of the record aren't in the list. O(terms, each with the log of the number of cuts).
 fn new_count(cuts: &CutIndex, shown: &LeafRecord) -> usize
     ensures value { result ≡ length (new_cuts cuts.now shown.now.terms) }
-    ensures at_most { result ≤ 4096 }
+    ensures at_most { result ≤ MAX_TERMS }
 {
     let mut count = 0;
     for index in 0..shown.len() {
@@ -125,7 +126,7 @@ fn number_terms(
 )
     requires room { length cuts.old + length (new_cuts cuts.old shown.now.terms) ≤ 65536 }
     requires own { All (λ t. t.cut < length cuts.old) own.now }
-    requires for_terms { 4096 ≤ vec_capacity fresh.old }
+    requires for_terms { MAX_TERMS ≤ vec_capacity fresh.old }
     ensures cuts { cuts.new ≡ cuts.old ++ new_cuts cuts.old shown.now.terms }
     ensures terms { terms_of cuts.new fresh.new.items ≡ shown.now.terms }
     ensures listed { All (λ t. t.cut < length cuts.new) fresh.new.items }
@@ -166,7 +167,7 @@ fn read_terms(cuts: &CutIndex, terms: &[NumberedTerm], into: &mut LeafRecord)
     requires rising { AllPairs (λ t u. t.cut < u.cut) terms.now }
     requires listed { All (λ t. t.cut < length cuts.now) terms.now }
     requires multipliers { All (λ t. IsMultiplier t.multiplier) terms.now }
-    requires bounded_count { length terms.now ≤ 4096 }
+    requires bounded_count { length terms.now ≤ MAX_TERMS }
     requires empty { into.old.terms ≡ [] }
     ensures scale { into.new.scale ≡ into.old.scale }
     ensures terms { into.new.terms ≡ terms_of cuts.now terms.now }

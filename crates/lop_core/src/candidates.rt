@@ -159,8 +159,8 @@ impl Candidates {
         self.heap.len()
     }
 
-    /// Drops the candidates whose bound is at most best, in the room that it has. O(the number of candidates) where they
-    /// stand in a heap's order.
+    /// Drops the candidates whose bound is at most best, in the room that it has. O(the number of candidates) where
+    /// they stand in a heap's order.
     fn drop_up_to(&mut self, best: i128)
         requires spare { candidate_count self.old ≤ vec_capacity self.old.spare }
         requires room { candidate_count self.old ≤ candidate_room self.old }

@@ -106,13 +106,7 @@ fn noted(cuts: &[Cut], notes: &[u32], slot: usize, cut: &Cut) -> Option<u32>
 
 /// The number of the cut, or else the place in the index where it belongs. O(1) where its slot notes it, and else
 /// O(log of the number of cuts).
-fn find(
-    cuts: &[Cut],
-    index: &[u32],
-    notes: &[u32],
-    slot: usize,
-    cut: &Cut,
-) -> Result<u32, usize>
+fn find(cuts: &[Cut], index: &[u32], notes: &[u32], slot: usize, cut: &Cut) -> Result<u32, usize>
     requires { IsCutIndex cuts.now index.now }
     ensures found { IfOk result (λ number. IsNumberOf cuts.now cut.now number) }
     ensures gap { IfErr result (λ place. IsGap cuts.now index.now cut.now place) }
@@ -226,8 +220,8 @@ fn move_up(index: &mut [u32], place: usize, low: usize, left: usize, number: u32
     index[place + left] = number;
 }
 
-/// Merges the fresh numbers into the list, whose first entries are the index, from the back: each stretch between two of
-/// their places is moved once. O(the length of the list).
+/// Merges the fresh numbers into the list, whose first entries are the index, from the back: each stretch between two
+/// of their places is moved once. O(the length of the list).
 fn merge_into(cuts: &[Cut], list: &mut [u32], known: usize, fresh: &[u32], places: &[u32])
     requires known { known + length fresh.now ≡ length list.old }
     requires pending { ArePending cuts.now (take known list.old) fresh.now places.now }
@@ -296,7 +290,13 @@ impl CutIndex {
     {
         let known = self.index.len();
         let slot = slot_of(cut);
-        match find(first_cuts(&self.cuts, known), &self.index, &self.notes, slot, cut) {
+        match find(
+            first_cuts(&self.cuts, known),
+            &self.index,
+            &self.notes,
+            slot,
+            cut,
+        ) {
             Ok(_) => false,
             Err(_) => search(later_cuts(&self.cuts, known), &self.fresh, cut).is_err(),
         }
@@ -312,7 +312,13 @@ impl CutIndex {
         let _kind = cut.kind();
         let known = self.index.len();
         let slot = slot_of(cut);
-        match find(first_cuts(&self.cuts, known), &self.index, &self.notes, slot, cut) {
+        match find(
+            first_cuts(&self.cuts, known),
+            &self.index,
+            &self.notes,
+            slot,
+            cut,
+        ) {
             Ok(number) => note(&mut self.notes, slot, number),
             Err(place) => {
                 let number = number_fresh(

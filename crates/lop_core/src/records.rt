@@ -75,14 +75,9 @@ fn has_cut_room(cuts: &CutIndex, shown: &LeafRecord) -> bool
     cuts.len() + shown.len() <= CUT_ROOM || cuts.len() + new_count(cuts, shown) <= CUT_ROOM
 }
 
-/// The number of the cut, where one of the next few terms of the record is of this cut. Then the place moves behind that
-/// term. O(1).
-fn number_ahead(
-    cuts: &CutIndex,
-    own: &[NumberedTerm],
-    place: &mut usize,
-    cut: &Cut,
-) -> Option<u32>
+/// The number of the cut, where one of the next few terms of the record is of this cut. Then the place moves behind
+/// that term. O(1).
+fn number_ahead(cuts: &CutIndex, own: &[NumberedTerm], place: &mut usize, cut: &Cut) -> Option<u32>
     requires listed { All (λ t. t.cut < length cuts.now) own.now }
     ensures { IfSome result (λ number. IsNumberOf cuts.now cut.now number) }
 {
@@ -97,14 +92,9 @@ fn number_ahead(
     None
 }
 
-/// The number of the cut, which is put at the end of the list where it isn't there yet. The next terms of the record are
-/// looked at first.
-fn number_of(
-    cuts: &mut CutIndex,
-    own: &[NumberedTerm],
-    place: &mut usize,
-    cut: &Cut,
-) -> u32
+/// The number of the cut, which is put at the end of the list where it isn't there yet. The next terms of the record
+/// are looked at first.
+fn number_of(cuts: &mut CutIndex, own: &[NumberedTerm], place: &mut usize, cut: &Cut) -> u32
     requires room { is_new cuts.old cut.now ≡ true → length cuts.old < 65536 }
     requires listed { All (λ t. t.cut < length cuts.old) own.now }
     ensures cuts { cuts.new ≡ (if is_new cuts.old cut.now then cuts.old ++ cut.now ∷ [] else cuts.old) }
@@ -280,8 +270,8 @@ impl Records {
             || (self.terms.len() + shown.len() <= self.term_room && has_cut_room(&self.cuts, shown))
     }
 
-    /// Whether the node has this record already. O(terms) where its terms stand in the order of the cuts' numbers, as in
-    /// a ticket.
+    /// Whether the node has this record already. O(terms) where its terms stand in the order of the cuts' numbers, as
+    /// in a ticket.
     fn is_own(&self, node: usize, shown: &LeafRecord) -> bool
         requires kept { AreKept self.now }
         requires inside { node < vec_len self.now.numbers }

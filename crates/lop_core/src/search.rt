@@ -123,9 +123,9 @@ impl Core {
         })
     }
 
-    /// Hands out the live idle node with the greatest bound, and of several the one with the lowest number. O(log of the
-    /// number of live idle nodes), and O(the path and the terms) for the ticket. Where no node is live and idle, O(the
-    /// number of nodes that are out).
+    /// Hands out the live idle node with the greatest bound, and of several the one with the lowest number. O(log of
+    /// the number of live idle nodes), and O(the path and the terms) for the ticket. Where no node is live and idle,
+    /// O(the number of nodes that are out).
     pub fn take(&mut self, worker: u32, into: &mut Ticket) -> TakeReply
         requires same_n { into.old.size ≡ self.old.problem.weights.size }
         ensures step { IsTake self.old into.old worker result self.new into.new }
@@ -150,9 +150,9 @@ impl Core {
         TakeReply::Node
     }
 
-    /// Takes in what a worker found at a node that is out to it. O(n) and O(the record's terms, each with the log of the
-    /// number of cuts), O(the number of nodes that are out), and O(log of the number of live idle nodes) where the node
-    /// is split. Where best rises, O(the number of live idle nodes); where a cut is new, O(the number of cuts).
+    /// Takes in what a worker found at a node that is out to it. O(n) and O(the record's terms, each with the log of
+    /// the number of cuts), O(the number of nodes that are out), and O(log of the number of live idle nodes) where the
+    /// node is split. Where best rises, O(the number of live idle nodes); where a cut is new, O(the number of cuts).
     pub fn report(&mut self, worker: u32, found: &Evaluated) -> ReportReply
         requires sound { IsOutTo self.old.state worker found.now.node → IsSoundReport self.old found.now }
         ensures step { IsReport self.old worker found.now result self.new }

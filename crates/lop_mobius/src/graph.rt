@@ -1,4 +1,7 @@
-ghost use Rattle.std.specs.Prelude.{◌<◌, ◌≤◌, ◌^◌};
+ghost use Rattle.std.specs.Prelude.{◌<◌, ◌≤◌};
+ghost use Rattle.std.specs.Vec.{vec_capacity};
+ghost use Rattle.lop_model.specs.declared.weights.TheConstants.{MAX_OBJECTS};
+ghost use Rattle.lop_mobius.specs.declared.graph.TheConstants.{EDGES};
 
 use crate::cells::{NONE, read, write};
 use lop_cuts::Point;
@@ -18,10 +21,10 @@ const HEAVY: u32 = WHOLE / 4;
 const LOW: u32 = WHOLE / 6;
 
 /// The most edges, each counted from both its ends.
-const EDGES: u32 = 200_000;
+const EDGES: usize = 200_000;
 
 /// The most nodes.
-pub(crate) const NODES: u32 = 65_536;
+pub(crate) const NODES: u32 = 16_384;
 
 /// An edge: a 3-cycle of which two arcs are its ends. The weight is half the loss of both and the whole loss of the
 /// third, less one half.
@@ -41,21 +44,20 @@ pub(crate) struct Graph {
     nodes: u32,
     ends: Vec<u32>,
     edges: Vec<Edge>,
-    filled: u32,
-    ghost few: { n ≤ 512 },
+    ghost few: { n ≤ MAX_OBJECTS },
+    ghost room: { EDGES ≤ vec_capacity edges },
 }
 
 impl Graph {
-    /// No node. It takes 16 n² + 1,600,000 bytes.
+    /// No node. It takes 16 n² bytes, and sets 1,600,000 aside for edges.
     pub(crate) fn new(alloc: Global, n: u16) -> Result<Graph, AllocError>
-        requires { n ≤ 512 }
+        requires { n ≤ MAX_OBJECTS }
     {
         let cells = n as usize * n as usize;
         let arc = Pair {
             before: 0,
             after: 0,
         };
-        let edge = Edge { weight: 0, to: 0 };
         Ok(Graph {
             n,
             losses: vec![in alloc; WHOLE; cells]?,
@@ -63,8 +65,7 @@ impl Graph {
             arcs: vec![in alloc; arc; cells]?,
             nodes: 0,
             ends: vec![in alloc; 0; cells]?,
-            edges: vec![in alloc; edge; EDGES as usize]?,
-            filled: 0,
+            edges: Vec::with_capacity(alloc, EDGES)?,
         })
     }
 
@@ -145,16 +146,15 @@ impl Graph {
         let weight = half
             .saturating_add(read(&self.losses, third))
             .saturating_sub(HALF);
-        let free = self.filled;
-        if to != NONE && weight < HEAVY && free < EDGES && (free as usize) < self.edges.len() {
-            self.edges[free as usize] = Edge { weight, to };
-            self.filled = free + 1;
+        if to != NONE && weight < HEAVY && self.edges.len() < EDGES {
+            self.edges.push(Edge { weight, to }).unwrap();
         }
     }
 
-    /// Adds the edges of a node, for the 3-cycles of its arc and each other object, and sorts them. O(n) but for the sort.
+    /// Adds the edges of a node, for the 3-cycles of its arc and each other object, and sorts them. O(n) but for the
+    /// sort.
     fn add_edges_of(&mut self, node: u32) {
-        let start = self.filled as usize;
+        let start = self.edges.len();
         let Pair {
             before: a,
             after: b,
@@ -168,17 +168,17 @@ impl Graph {
                 self.add_edge(loss, back, onward);
             }
         }
-        let end = self.filled as usize;
-        if start <= end && end <= self.edges.len() {
+        let end = self.edges.len();
+        if start <= end {
             self.edges[start..end].sort_unstable();
         }
-        write(&mut self.ends, node as usize, self.filled);
+        write(&mut self.ends, node as usize, end.min(EDGES) as u32);
     }
 
     /// The graph of a point. O(n³), and the sorts of at most 200,000 edges.
     pub(crate) fn load(&mut self, point: &Point) {
         self.nodes = 0;
-        self.filled = 0;
+        self.edges.clear();
         for a in 0..point.n() {
             self.add_arcs_from(point, a);
         }

@@ -6,9 +6,9 @@ ghost use Rattle.lop_cuts.specs.Point.{IsViolated};
 use crate::RingRoom;
 use lop_cuts::{CutList, Point};
 
-/// Appends ladders of five and seven 3-cycles that the point violates, at most `limit` of them and no two equal, and says
-/// how many. None has an arc together with its reverse. It looks for rings of arcs with values from 1/6 to 5/6, in which
-/// two neighbours lie on a 3-cycle and the cycles' losses add up to little; the ladder of such a ring is tested by
+/// Appends ladders of five and seven 3-cycles that the point violates, at most `limit` of them and no two equal, and
+/// says how many. None has an arc together with its reverse. It looks for rings of arcs with values from 1/6 to 5/6, in
+/// which two neighbours lie on a 3-cycle and the cycles' losses add up to little; the ladder of such a ring is tested by
 /// itself. It takes no memory, and makes at most 2,000,000 steps along edges: about 10 ms at 40 objects.
 pub fn violated_ladders(
     point: &Point,

@@ -1,6 +1,8 @@
 ghost use Rattle.std.specs.Prelude.{◌<◌, ◌≤◌};
+ghost use Rattle.lop_mobius.specs.declared.graph.TheConstants.{NODES};
 
 use crate::cells::{NONE, read, write};
+use crate::graph::NODES;
 use std::alloc::{AllocError, Global};
 
 /// How many layers there are: paths of at most five edges.
@@ -14,13 +16,13 @@ pub(crate) struct Layers {
     from: Vec<u32>,
     reached: Vec<u32>,
     counts: [u32; 6],
-    ghost few: { nodes ≤ 65536 },
+    ghost few: { nodes ≤ NODES },
 }
 
 impl Layers {
     /// No path. It takes 72 bytes a node.
     pub(crate) fn new(alloc: Global, nodes: usize) -> Result<Layers, AllocError>
-        requires { nodes ≤ 65536 }
+        requires { nodes ≤ NODES }
     {
         let cells = LAYERS * nodes;
         Ok(Layers {

@@ -1,4 +1,5 @@
 ghost use Rattle.std.specs.Prelude.{◌≡◌, ◌≤◌, length, IfOk};
+ghost use Rattle.lop_model.specs.declared.weights.TheConstants.{MAX_OBJECTS};
 ghost use Rattle.lop_cuts.specs.Separation.{GainsViolated};
 
 use crate::graph::{Graph, NODES};
@@ -30,9 +31,10 @@ impl Model for RingRoom {
 }
 
 impl RingRoom {
-    /// It takes 16 n² + 1,600,000 bytes for the graph, and 72 for each of its nodes, n² or at most 65,536.
+    /// It takes 16 n² bytes for the graph and 72 for each of its nodes, n² or at most 16,384, and sets 1,600,000 aside
+    /// for its edges.
     pub fn new(alloc: Global, n: u16) -> Result<Self, AllocError>
-        requires { n ≤ 512 }
+        requires { n ≤ MAX_OBJECTS }
         ensures { IfOk result (λ r. r ≡ n) }
     {
         let cells = n as usize * n as usize;

@@ -1,7 +1,6 @@
 // Bundles of arcs that go back in an order: one ladder of nine dicycles covers five of them at once, each by way of two
 // third objects but for the first, which has one.
-ghost use Rattle.std.specs.Prelude.{◌≡◌, ◌<◌, ◌≤◌, length};
-ghost use Rattle.lop_cuts.specs.Kind.{FitsCut};
+ghost use Rattle.std.specs.Prelude.{◌≡◌};
 
 use crate::margins::{MOST, Margins, Span};
 use crate::start::object_at;

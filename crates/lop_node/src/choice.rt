@@ -18,15 +18,19 @@ const MOST_USES: u8 = 2;
 /// The levels of violation: units of 1/64.
 const LEVELS: u8 = 64;
 
-/// The cells of a table over the arcs of 512 objects.
-const CELLS: usize = 262_144;
-
 /// Marks for the cuts of a list and the arcs of the objects. A contract sees how many cuts there may be.
 #[derive(Drop)]
 pub struct Choice {
     room: usize,
     levels: Vec<u8>,
-    uses: Vec<u8>,
+    uses: Uses,
+}
+
+/// For each arc how many taken cuts have it. No more is proved of it than that it is safe.
+#[derive(Drop)]
+struct Uses {
+    n: u16,
+    counts: Vec<u8>,
 }
 
 impl Model for Choice {
@@ -37,14 +41,73 @@ impl Model for Choice {
 
     ghost view = { λ c. c.room };
 
-    ghost invariant = { λ c. (vec_len c.levels ≡ c.room) × (vec_len c.uses ≡ 262144) };
+    ghost invariant = { λ c. vec_len c.levels ≡ c.room };
 }
 
-/// The cell of the arc from a to b.
-fn cell_of(a: u16, b: u16) -> usize
-    ensures { result < 262144 }
-{
-    a as usize % 512 * 512 + b as usize % 512
+impl Uses {
+    /// Takes n² bytes.
+    fn new(alloc: Global, n: u16) -> Result<Self, AllocError> {
+        let cells = n as usize * n as usize;
+        Ok(Uses {
+            n,
+            counts: vec![in alloc; 0; cells]?,
+        })
+    }
+
+    /// The cell of the arc from a to b.
+    fn cell_of(&self, a: u16, b: u16) -> usize {
+        a as usize * self.n as usize + b as usize
+    }
+
+    /// No cut is taken. O(n²).
+    fn clear(&mut self) {
+        for count in self.counts.iter_mut() {
+            *count = 0;
+        }
+    }
+
+    /// Counts a taken cut at an arc. O(1).
+    fn count(&mut self, a: u16, b: u16) {
+        let cell = self.cell_of(a, b);
+        if cell < self.counts.len() {
+            self.counts[cell] = self.counts[cell].saturating_add(1);
+        }
+    }
+
+    /// Counts a taken cut at its arcs. O(arcs).
+    fn count_all(&mut self, arcs: &[Pair]) {
+        for arc in arcs {
+            self.count(arc.before, arc.after);
+        }
+    }
+
+    /// Whether fewer than two taken cuts have the arc. O(1).
+    fn has_room(&self, a: u16, b: u16) -> bool {
+        let cell = self.cell_of(a, b);
+        cell >= self.counts.len() || self.counts[cell] < MOST_USES
+    }
+
+    /// Whether fewer than two taken cuts have each of the arcs. O(arcs).
+    fn are_spread(&self, arcs: &[Pair]) -> bool {
+        for arc in arcs {
+            if !self.has_room(arc.before, arc.after) {
+                return false;
+            }
+        }
+        true
+    }
+
+    /// Whether fewer than two taken cuts have each arc of a cut.
+    fn is_spread(&self, cut: &Cut) -> bool {
+        match cut.kind() {
+            CutKind::Dicycle([a, b, c]) => {
+                self.has_room(*a, *b) && self.has_room(*b, *c) && self.has_room(*c, *a)
+            }
+            CutKind::Fence { u: _, w: _ } | CutKind::Ladder(_) => {
+                self.are_spread(cut.arcs().as_slice())
+            }
+        }
+    }
 }
 
 /// By how many 64ths values of this sum are above a right side, rounded down, at most 64.
@@ -93,50 +156,6 @@ fn write_levels(point: &Point, list: &CutList, levels: &mut [u8])
     }
 }
 
-/// Whether fewer than two taken cuts have each of the arcs. O(arcs).
-fn are_spread(uses: &[u8], arcs: &[Pair]) -> bool
-    requires { length uses.now ≡ 262144 }
-{
-    for arc in arcs {
-        if uses[cell_of(arc.before, arc.after)] >= MOST_USES {
-            return false;
-        }
-    }
-    true
-}
-
-/// Whether fewer than two taken cuts have each arc of a cut.
-fn is_spread(uses: &[u8], cut: &Cut) -> bool
-    requires { length uses.now ≡ 262144 }
-{
-    match cut.kind() {
-        CutKind::Dicycle([a, b, c]) => {
-            uses[cell_of(*a, *b)] < MOST_USES
-                && uses[cell_of(*b, *c)] < MOST_USES
-                && uses[cell_of(*c, *a)] < MOST_USES
-        }
-        CutKind::Fence { u: _, w: _ } | CutKind::Ladder(_) => {
-            are_spread(uses, cut.arcs().as_slice())
-        }
-    }
-}
-
-/// Counts a taken cut at its arcs. O(arcs).
-fn use_arcs(uses: &mut [u8], arcs: &[Pair])
-    requires { length uses.old ≡ 262144 }
-{
-    for arc in arcs {
-        use_arc(uses, arc.before, arc.after);
-    }
-}
-
-fn use_arc(uses: &mut [u8], a: u16, b: u16)
-    requires { length uses.old ≡ 262144 }
-{
-    let cell = cell_of(a, b);
-    uses[cell] = uses[cell].saturating_add(1);
-}
-
 /// Which cuts are taken: those of a level of violation, the spread ones alone or all.
 #[derive(Clone, Copy)]
 struct Sought {
@@ -163,14 +182,13 @@ fn take_one(
     list: &CutList,
     k: usize,
     levels: &mut [u8],
-    uses: &mut [u8],
+    uses: &mut Uses,
     ascent: &mut AscentRoom,
     sought: Sought,
     before: Taken,
 ) -> Taken
     requires index { k < length list.now.cuts }
     requires levels { length list.now.cuts ≤ length levels.old }
-    requires uses { length uses.old ≡ 262144 }
     requires fit { All (FitsCut ascent.old.size) list.now.cuts }
     ensures { ascent.new.size ≡ ascent.old.size }
 {
@@ -178,11 +196,11 @@ fn take_one(
         return before;
     }
     let cut = list.get(k);
-    if sought.spread && !is_spread(uses, cut) {
+    if sought.spread && !uses.is_spread(cut) {
         return before;
     }
     levels[k] = 0;
-    use_arcs(uses, cut.arcs().as_slice());
+    uses.count_all(cut.arcs().as_slice());
     let reply = ascent.add_row(cut, 0, 1);
     counted(before, reply)
 }
@@ -191,13 +209,12 @@ fn take_one(
 fn take_level(
     list: &CutList,
     levels: &mut [u8],
-    uses: &mut [u8],
+    uses: &mut Uses,
     ascent: &mut AscentRoom,
     sought: Sought,
     before: Taken,
 ) -> Taken
     requires levels { length list.now.cuts ≤ length levels.old }
-    requires uses { length uses.old ≡ 262144 }
     requires fit { All (FitsCut ascent.old.size) list.now.cuts }
     ensures { ascent.new.size ≡ ascent.old.size }
 {
@@ -227,13 +244,12 @@ fn counted(all: Taken, reply: RowReply) -> Taken {
 fn take_levels(
     list: &CutList,
     levels: &mut [u8],
-    uses: &mut [u8],
+    uses: &mut Uses,
     ascent: &mut AscentRoom,
     spread: bool,
     before: Taken,
 ) -> Taken
     requires levels { length list.now.cuts ≤ length levels.old }
-    requires uses { length uses.old ≡ 262144 }
     requires fit { All (FitsCut ascent.old.size) list.now.cuts }
     ensures { ascent.new.size ≡ ascent.old.size }
 {
@@ -246,24 +262,22 @@ fn take_levels(
 }
 
 impl Choice {
-    /// Takes a byte for each cut of the list, and 262,144 for arcs.
-    pub fn new(alloc: Global, room: usize) -> Result<Self, AllocError>
+    /// Takes a byte for each cut of the list, and n² for arcs.
+    pub fn new(alloc: Global, n: u16, room: usize) -> Result<Self, AllocError>
         ensures { IfOk result (λ c. c ≡ room) }
     {
         Ok(Choice {
             room,
             levels: vec![in alloc; 0; room]?,
-            uses: vec![in alloc; 0; CELLS]?,
+            uses: Uses::new(alloc, n)?,
         })
     }
 
-    /// Begins a round: no cut is taken.
+    /// Begins a round: no cut is taken. O(n²).
     pub fn begin(&mut self) -> Taken
         ensures { self.new ≡ self.old }
     {
-        for count in self.uses.iter_mut() {
-            *count = 0;
-        }
+        self.uses.clear();
         Taken { taken: 0, added: 0 }
     }
 

@@ -1,6 +1,7 @@
 ghost use Rattle.std.specs.Prelude.{◌≡◌, ℕ, ◌≤◌, Some, length, IfOk};
 ghost use Rattle.lop_model.specs.Order.{IsOrder};
 ghost use Rattle.lop_model.specs.Matrix.{weight};
+ghost use Rattle.lop_model.specs.declared.weights.TheConstants.{MAX_OBJECTS};
 ghost use Rattle.lop_leaf.specs.Record.{FitTerms, IsScaledTerms};
 ghost use Rattle.lop_leaf.specs.Bound.{record_value, IsQuotient};
 ghost use Rattle.lop_leaf.specs.Sound.{IsSoundTicket, IsSoundResult};
@@ -55,10 +56,11 @@ fn record_bound(
 }
 
 impl CutJudge {
-    /// Takes the rooms of a judge that packs, of an ascent, of a list of cuts and of a search for ladders, some 20 to 40 MB.
+    /// Takes the rooms of a judge that packs, of an ascent, of a list of cuts and of a search for ladders, some 20 to
+    /// 40 MB.
     pub fn new(alloc: Global, n: u16) -> Result<Self, AllocError>
         requires positive { 1 ≤ n }
-        requires within_limit { n ≤ 512 }
+        requires within_limit { n ≤ MAX_OBJECTS }
         ensures { IfOk result (λ j. j ≡ n) }
     {
         Ok(CutJudge {

@@ -1,6 +1,6 @@
-// What may be taken from each arc: its margin less what the terms of a record charge, by the places that its objects have
-// in an order. An arc that goes back in the order is to be covered by two that go forward, by way of a third object. Reads
-// and writes are tested, so that no more is proved of them than that they are safe.
+// What may be taken from each arc: its margin less what the terms of a record charge, by the places that its objects
+// have in an order. An arc that goes back in the order is to be covered by two that go forward, by way of a third
+// object. Reads and writes are tested, so that no more is proved of them than that they are safe.
 ghost use Rattle.std.specs.Prelude.{◌≡◌, ℕ, ◌<◌, ◌≤◌, length, IfOk};
 
 use lop_fix::{Decision, Fixings};
@@ -27,8 +27,8 @@ pub struct Thirds {
     pub second_margin: i64,
 }
 
-/// Margins in units of a record's scale, row by row and column by column, for each arc a number that the least margin of
-/// its best dicycle doesn't exceed, and the places of the objects.
+/// Margins in units of a record's scale, row by row and column by column, for each arc a number that the least margin
+/// of its best dicycle doesn't exceed, and the places of the objects.
 #[derive(Drop)]
 pub struct Margins {
     size: usize,
@@ -62,7 +62,8 @@ fn part(cells: &[i64], start: usize, end: usize) -> &[i64] {
     }
 }
 
-/// The margin of a before b: the greatest where it is fixed, the least where its reverse is, and between them elsewhere.
+/// The margin of a before b: the greatest where it is fixed, the least where its reverse is, and between them
+/// elsewhere.
 fn margin_of(weights: &Weights, fixings: &Fixings, a: u16, b: u16, scale: u32) -> i64
     requires same_n { fixings.now.size ≡ weights.now.size }
 {

@@ -2,6 +2,7 @@
 ghost use Rattle.std.specs.Prelude.{◌≡◌, ◌<◌, ◌≤◌, length, All, IfOk, vec_len};
 ghost use Rattle.lop_cuts.specs.Kind.{FitsCut};
 ghost use Rattle.lop_leaf.specs.Record.{FitTerms};
+ghost use Rattle.lop_model.specs.declared.weights.TheConstants.{MAX_OBJECTS};
 
 use crate::by_point::order_by_point;
 use crate::choice::{Choice, Taken};
@@ -113,7 +114,7 @@ struct Searches {
 impl Searches {
     fn new(alloc: Global, n: u16) -> Result<Self, AllocError>
         requires positive { 1 ≤ n }
-        requires within_limit { n ≤ 512 }
+        requires within_limit { n ≤ MAX_OBJECTS }
         ensures same_room { IfOk result (λ s. s.found.room ≡ s.choice) }
         ensures same_pool { IfOk result (λ s. s.pool ≡ n) }
         ensures same_rings { IfOk result (λ s. s.rings ≡ n) }
@@ -121,7 +122,7 @@ impl Searches {
         let room = room_of(n);
         Ok(Searches {
             found: CutList::new(alloc, room)?,
-            choice: Choice::new(alloc, room)?,
+            choice: Choice::new(alloc, n, room)?,
             pool: Pool::new(alloc, n)?,
             rings: RingRoom::new(alloc, n)?,
             margins: Margins::new(alloc, n)?,
@@ -141,7 +142,7 @@ struct Orders {
 impl Orders {
     fn new(alloc: Global, n: u16) -> Result<Self, AllocError>
         requires positive { 1 ≤ n }
-        requires within_limit { n ≤ 512 }
+        requires within_limit { n ≤ MAX_OBJECTS }
         ensures same_sums { IfOk result (λ o. vec_len o.sums ≡ n) }
         ensures same_next { IfOk result (λ o. length o.next ≡ n) }
         ensures same_climb { IfOk result (λ o. length o.climb ≡ n) }
@@ -160,7 +161,7 @@ impl Rounds {
     /// Takes the rooms for n objects.
     pub fn new(alloc: Global, n: u16) -> Result<Self, AllocError>
         requires positive { 1 ≤ n }
-        requires within_limit { n ≤ 512 }
+        requires within_limit { n ≤ MAX_OBJECTS }
         ensures { IfOk result (λ r. r.size ≡ n) }
     {
         let searches = Searches::new(alloc, n)?;

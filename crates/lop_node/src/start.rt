@@ -1,7 +1,7 @@
 // What the list of rows starts with beside those of an inherited record: dicycles that are packed by falling thresholds
-// into what the record leaves, each for an arc that goes back in a good order, bundles of such arcs, and dicycles without
-// a multiplier beside them.
-ghost use Rattle.std.specs.Prelude.{◌≡◌, ◌<◌, ◌≤◌, length, IfOk};
+// into what the record leaves, each for an arc that goes back in a good order, bundles of such arcs, and dicycles
+// without a multiplier beside them.
+ghost use Rattle.std.specs.Prelude.{◌≡◌, length};
 
 use crate::bundle::{Bundle, bundle_arc};
 use crate::margins::{MOST, Margins, Span};

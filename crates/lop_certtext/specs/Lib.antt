@@ -1,6 +1,6 @@
 pub mod Line
 pub mod CutLine
-pub mod LeafLine
+pub mod RecordLine
 pub mod Tree
 pub mod Certificate
 pub mod Answer

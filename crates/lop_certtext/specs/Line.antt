@@ -4,8 +4,9 @@ use Rattle.std.specs.Fmt.{signed_decimal}
 use Rattle.std.specs.List.{flat_map, list_all, slice_split}
 use Rattle.std.specs.Str.{bytes_eq}
 use Rattle.lop_desk.specs.Number.{digits_value, is_plain_word}
+use Rattle.lop_certtext.specs.declared.limits.TheConstants.{MAX_CUTS, MAX_RECORDS}
 use Rattle.lop_certtext.specs.declared.word.CertWord.{CertWord}
-use Rattle.lop_certtext.specs.declared.word.CertWord.TheVariants.{Version, Objects, OrderLine, Value, Bound, Cuts, Dicycle, Fence, Ladder, SplitLine, Leaf, End}
+use Rattle.lop_certtext.specs.declared.word.CertWord.TheVariants.{Version, Objects, OrderLine, Value, Bound, Cuts, Dicycle, Fence, Ladder, RecordsLine, RecordLine, SplitLine, Leaf, End}
 
 pub record CertLine : Type 0 where
   pub word : CertWord
@@ -21,6 +22,8 @@ word_text Cuts = codes "cuts"
 word_text Dicycle = codes "dicycle"
 word_text Fence = codes "fence"
 word_text Ladder = codes "ladder"
+word_text RecordsLine = codes "records"
+word_text RecordLine = codes "record"
 word_text SplitLine = codes "split"
 word_text Leaf = codes "leaf"
 word_text End = codes "end"
@@ -34,9 +37,9 @@ is_count (negsuc n) = false
 abbrev pub is_signed : ℤ → Bool
 is_signed n = nat_lt (nat_abs n) (2 ^ 63)
 
--- the greatest number of cuts of a certificate
-abbrev pub most_cuts : ℕ
-most_cuts = 1048576
+-- a number from 0 to a limit
+abbrev pub is_at_most : ℕ → ℤ → Bool
+is_at_most limit n = int_le (pos 0) n && int_le n (pos limit)
 
 -- one number or more, each of at most 2^63 - 1
 abbrev pub are_counts : List ℤ → Bool
@@ -46,14 +49,17 @@ are_counts (n ∷ ns) = list_all is_count (n ∷ ns)
 -- the numbers that may stand behind a word
 abbrev pub is_row : CertWord → List ℤ → Bool
 is_row Version (pos (suc zero) ∷ []) = true
+is_row Version (pos (suc (suc zero)) ∷ []) = true
 is_row Objects (n ∷ []) = is_count n
 is_row OrderLine ns = are_counts ns
 is_row Value (n ∷ []) = is_signed n
 is_row Bound (n ∷ []) = is_signed n
-is_row Cuts (n ∷ []) = int_le (pos 0) n && int_le n (pos most_cuts)
+is_row Cuts (n ∷ []) = is_at_most MAX_CUTS n
 is_row Dicycle ns = are_counts ns
 is_row Fence ns = are_counts ns
 is_row Ladder ns = are_counts ns
+is_row RecordsLine (n ∷ []) = is_at_most MAX_RECORDS n
+is_row RecordLine ns = are_counts ns
 is_row SplitLine ns = are_counts ns
 is_row Leaf ns = are_counts ns
 is_row End [] = true
@@ -86,7 +92,7 @@ first_word [] text = None
 first_word (w ∷ ws) text = if bytes_eq (word_text w) text then Some w else first_word ws text
 
 abbrev pub cert_words : List CertWord
-cert_words = Version ∷ Objects ∷ OrderLine ∷ Value ∷ Bound ∷ Cuts ∷ Dicycle ∷ Fence ∷ Ladder ∷ SplitLine ∷ Leaf ∷ End ∷ []
+cert_words = Version ∷ Objects ∷ OrderLine ∷ Value ∷ Bound ∷ Cuts ∷ Dicycle ∷ Fence ∷ Ladder ∷ RecordsLine ∷ RecordLine ∷ SplitLine ∷ Leaf ∷ End ∷ []
 
 -- a word and numbers that may stand behind it
 abbrev pub row_of : Option CertWord → Option (List ℤ) → Option CertLine

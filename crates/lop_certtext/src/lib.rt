@@ -1,6 +1,7 @@
 //! Certificate lines, one spelling each, and what a certificate is.
 #![tactic(auto)]
 
+mod limits;
 mod number;
 mod read;
 mod reason;
@@ -8,12 +9,15 @@ mod room;
 mod row;
 #[cfg(test)]
 mod tests;
+mod version;
 mod word;
 mod write;
 
+pub use limits::{MAX_CUTS, MAX_RECORDS, MAX_SCALE, MAX_TERMS, MAX_TOTAL_TERMS};
 pub use read::{Spelling, read_line};
 pub use reason::Reason;
 pub use room::{NUMBER_ROOM, NumberRoom};
-pub use row::{MOST_CUTS, is_row};
+pub use row::is_row;
+pub use version::CertVersion;
 pub use word::CertWord;
 pub use write::put_line;

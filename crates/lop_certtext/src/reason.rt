@@ -13,9 +13,11 @@ pub enum Reason {
     Value { stated: i64, found: i64 },
     /// The numbers of the line aren't a cut of the file's objects.
     Cut,
+    /// The numbers of the line aren't a scale and terms, or the records so far have too many terms.
+    RecordLine,
     /// The numbers of the line aren't an undecided pair of objects.
     SplitLine,
-    /// The numbers of the line aren't a scale and terms.
+    /// The numbers of the line aren't a scale and terms, or the number of a record.
     Leaf,
     /// The Lagrangian bound of a leaf isn't below what the stated bound allows.
     High { upper: i128, limit: i128 },

@@ -14,6 +14,8 @@ pub enum CertWord {
     Dicycle,
     Fence,
     Ladder,
+    RecordsLine,
+    RecordLine,
     SplitLine,
     Leaf,
     End,
@@ -34,6 +36,8 @@ impl CertWord {
             CertWord::Dicycle => b"dicycle",
             CertWord::Fence => b"fence",
             CertWord::Ladder => b"ladder",
+            CertWord::RecordsLine => b"records",
+            CertWord::RecordLine => b"record",
             CertWord::SplitLine => b"split",
             CertWord::Leaf => b"leaf",
             CertWord::End => b"end",
@@ -42,7 +46,7 @@ impl CertWord {
 }
 
 // All first words.
-const WORDS: [CertWord; 12] = [
+const WORDS: [CertWord; 14] = [
     CertWord::Version,
     CertWord::Objects,
     CertWord::OrderLine,
@@ -52,6 +56,8 @@ const WORDS: [CertWord; 12] = [
     CertWord::Dicycle,
     CertWord::Fence,
     CertWord::Ladder,
+    CertWord::RecordsLine,
+    CertWord::RecordLine,
     CertWord::SplitLine,
     CertWord::Leaf,
     CertWord::End,

@@ -1,5 +1,5 @@
 -- A line and its one spelling.
-use Rattle.std.proofs.Common.{◌≡◌, ℕ, ◌+◌, ◌*◌, ◌^◌, ◌≤◌, zero, suc, Bool, true, false, not, ◌==◌, cond, List, [], ◌∷◌, ◌++◌, length, map, ℤ, pos, negsuc, nat_abs, Option, None, Some, refl, sym, ◌∙◌, ap, arith}
+use Rattle.std.proofs.Common.{◌≡◌, ℕ, ◌+◌, ◌*◌, ◌^◌, ◌<◌, ◌≤◌, zero, suc, Bool, true, false, not, ◌==◌, cond, List, [], ◌∷◌, ◌++◌, length, map, ℤ, pos, negsuc, nat_abs, Option, None, Some, refl, sym, ◌∙◌, ap, arith}
 use Rattle.std.specs.Prelude.{int_le, ◌&&◌}
 use Rattle.std.specs.Fmt.{signed_decimal}
 use Rattle.std.specs.List.{list_all, flat_map, join_with_byte, All}
@@ -9,9 +9,10 @@ use Rattle.std.proofs.lemmas.List.{append-nil, length-append}
 use Rattle.std.proofs.lemmas.List.Folds.{list_all-append}
 use Rattle.std.proofs.lemmas.List.Splits.{join_with_byte-slice_split, slice_split_none, slice_split_at}
 use Rattle.std.proofs.lemmas.Slice.Eq.{bytes_eq-Decides}
+use Rattle.lop_certtext.specs.declared.limits.TheConstants.{MAX_CUTS, MAX_RECORDS}
 use Rattle.lop_certtext.specs.declared.word.CertWord.{CertWord}
-use Rattle.lop_certtext.specs.declared.word.CertWord.TheVariants.{Version, Objects, OrderLine, Value, Bound, Cuts, Dicycle, Fence, Ladder, SplitLine, Leaf, End}
-use Rattle.lop_certtext.specs.Line.{CertLine, word_text, most_cuts, is_count, is_signed, are_counts, is_row, line_text, numbers_of, first_word, cert_words, row_of, pieces_reading, line_reading}
+use Rattle.lop_certtext.specs.declared.word.CertWord.TheVariants.{Version, Objects, OrderLine, Value, Bound, Cuts, Dicycle, Fence, Ladder, RecordsLine, RecordLine, SplitLine, Leaf, End}
+use Rattle.lop_certtext.specs.Line.{CertLine, word_text, is_at_most, is_count, is_signed, are_counts, is_row, line_text, numbers_of, first_word, cert_words, row_of, pieces_reading, line_reading}
 use Rattle.lop_certtext.specs.Reading.{pieces, number_word}
 use Rattle.lop_certtext.proofs.Numbers.{is_free, number_free, signed_decimals-numbers_of, numbers_of-signed_decimals, length-number_words}
 
@@ -31,23 +32,26 @@ all_signed-are_counts : (ns : List ℤ) → are_counts ns ≡ true → list_all 
 all_signed-are_counts [] e = absurd (false≢true e)
 all_signed-are_counts (n ∷ ns) e = all_signed-counts (n ∷ ns) e
 
-small_count : (n : ℤ) → (int_le (pos 0) n && int_le n (pos most_cuts)) ≡ true → is_signed n ≡ true
-small_count (pos n) e =
-    let most : n ≤ most_cuts = leb-true n most_cuts (and_parts (int_le (pos 0) (pos n)) (int_le (pos n) (pos most_cuts)) e).1 in
+small_count : (limit : ℕ) (n : ℤ) → limit < 2 ^ 63 → is_at_most limit n ≡ true → is_signed n ≡ true
+small_count limit (pos n) small e =
+    let most : n ≤ limit = leb-true n limit (and_parts (int_le (pos 0) (pos n)) (int_le (pos n) (pos limit)) e).1 in
     lt-ltb n (2 ^ 63) (omega arith)
-small_count (negsuc n) e = absurd (false≢true e)
+small_count limit (negsuc n) small e = absurd (false≢true e)
 
 -- the numbers behind a word are at most 2^63 - 1 in absolute value
 pub all_signed-row : (w : CertWord) (ns : List ℤ) → is_row w ns ≡ true → list_all is_signed ns ≡ true
 all_signed-row Version (pos (suc zero) ∷ []) e = refl
+all_signed-row Version (pos (suc (suc zero)) ∷ []) e = refl
 all_signed-row Objects (n ∷ []) e = and_from _ _ (is_signed-count n e) refl
 all_signed-row OrderLine ns e = all_signed-are_counts ns e
 all_signed-row Value (n ∷ []) e = and_from _ _ e refl
 all_signed-row Bound (n ∷ []) e = and_from _ _ e refl
-all_signed-row Cuts (n ∷ []) e = and_from _ _ (small_count n e) refl
+all_signed-row Cuts (n ∷ []) e = and_from _ _ (small_count MAX_CUTS n (omega arith) e) refl
 all_signed-row Dicycle ns e = all_signed-are_counts ns e
 all_signed-row Fence ns e = all_signed-are_counts ns e
 all_signed-row Ladder ns e = all_signed-are_counts ns e
+all_signed-row RecordsLine (n ∷ []) e = and_from _ _ (small_count MAX_RECORDS n (omega arith) e) refl
+all_signed-row RecordLine ns e = all_signed-are_counts ns e
 all_signed-row SplitLine ns e = all_signed-are_counts ns e
 all_signed-row Leaf ns e = all_signed-are_counts ns e
 all_signed-row End [] e = refl
@@ -73,6 +77,8 @@ first_word-word_text Cuts = refl
 first_word-word_text Dicycle = refl
 first_word-word_text Fence = refl
 first_word-word_text Ladder = refl
+first_word-word_text RecordsLine = refl
+first_word-word_text RecordLine = refl
 first_word-word_text SplitLine = refl
 first_word-word_text Leaf = refl
 first_word-word_text End = refl
@@ -87,6 +93,8 @@ blank_free-word_text Cuts = refl
 blank_free-word_text Dicycle = refl
 blank_free-word_text Fence = refl
 blank_free-word_text Ladder = refl
+blank_free-word_text RecordsLine = refl
+blank_free-word_text RecordLine = refl
 blank_free-word_text SplitLine = refl
 blank_free-word_text Leaf = refl
 blank_free-word_text End = refl
@@ -101,6 +109,8 @@ lf_free-word_text Cuts = refl
 lf_free-word_text Dicycle = refl
 lf_free-word_text Fence = refl
 lf_free-word_text Ladder = refl
+lf_free-word_text RecordsLine = refl
+lf_free-word_text RecordLine = refl
 lf_free-word_text SplitLine = refl
 lf_free-word_text Leaf = refl
 lf_free-word_text End = refl
@@ -115,6 +125,8 @@ length-word_text Cuts = omega arith
 length-word_text Dicycle = omega arith
 length-word_text Fence = omega arith
 length-word_text Ladder = omega arith
+length-word_text RecordsLine = omega arith
+length-word_text RecordLine = omega arith
 length-word_text SplitLine = omega arith
 length-word_text Leaf = omega arith
 length-word_text End = omega arith

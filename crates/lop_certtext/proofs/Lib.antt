@@ -6,6 +6,7 @@ pub mod TreeBounds
 pub mod ObjectNumbers
 pub mod CutText
 pub mod NodeText
+pub mod LeafRows
 pub mod AcceptedText
 pub mod OnlyTrue
 pub mod Unique

@@ -115,7 +115,7 @@ lf_free-word_text SplitLine = refl
 lf_free-word_text Leaf = refl
 lf_free-word_text End = refl
 
-length-word_text : (w : CertWord) → length (word_text w) ≤ 7
+pub length-word_text : (w : CertWord) → length (word_text w) ≤ 7
 length-word_text Version = omega arith
 length-word_text Objects = omega arith
 length-word_text OrderLine = omega arith

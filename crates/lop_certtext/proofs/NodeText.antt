@@ -1,23 +1,26 @@
--- The lines of leaves and splits are read as those, and nothing else is.
-use Rattle.std.proofs.Common.{◌≡◌, ℕ, ◌+◌, ◌-◌, ◌*◌, ◌^◌, ◌<◌, ◌≤◌, Bool, true, false, ◌&&◌, eqb, cond, List, [], ◌∷◌, ◌++◌, length, nat_abs, ℤ, pos, negsuc, Option, None, Some, refl, ◌∙◌, ap, subst, arith}
+-- The lines of records, leaves and splits are read as those, and nothing else is.
+use Rattle.std.proofs.Common.{◌≡◌, ℕ, ◌+◌, ◌-◌, ◌*◌, ◌^◌, ◌<◌, ◌≤◌, Bool, true, false, ◌&&◌, eqb, cond, List, [], ◌∷◌, ◌++◌, length, nat_abs, ℤ, pos, negsuc, Option, None, Some, refl, sym, ◌∙◌, ap, subst, arith}
 use Rattle.std.specs.Prelude.{All, nat_le}
 use Rattle.std.specs.List.{flat_map, list_all}
 use Rattle.std.proofs.lemmas.Bool.{and_parts, and_from, false≢true, eqb-true, eq-eqb, leb-true, le-leb, ltb-true, lt-ltb}
 use Rattle.std.proofs.lemmas.Fmt.{length_signed_le}
 use Rattle.std.proofs.lemmas.List.{length-append}
-use Rattle.std.proofs.lemmas.List.Elements.{All-nil, All-cons, All-head, All-tail}
+use Rattle.std.proofs.lemmas.List.Elements.{All-nil, All-cons, All-head, All-tail, All-get_or}
 use Rattle.lop_model.specs.declared.pair.Pair.{Pair}
 use Rattle.lop_model.specs.Fixings.{IsClosure, IsUndecided}
-use Rattle.lop_certtext.specs.declared.word.CertWord.TheVariants.{SplitLine, Leaf}
-use Rattle.lop_certtext.specs.Line.{most_cuts, is_count, is_row, line_text}
+use Rattle.lop_certtext.specs.declared.word.CertWord.TheVariants.{SplitLine, RecordLine}
+use Rattle.lop_certtext.specs.Line.{CertLine, is_count, are_counts, line_text}
 use Rattle.lop_certtext.specs.Reading.{number_word}
 use Rattle.lop_certtext.specs.CutLine.{numbers_of_objects, name_objects}
-use Rattle.lop_certtext.specs.LeafLine.{CutTerm, LeafTerms, term_numbers, leaf_line, terms_of, are_rising, is_leaf_row, leaf_of}
-use Rattle.lop_certtext.specs.Tree.{split_line}
+use Rattle.lop_certtext.specs.declared.limits.TheConstants.{MAX_CUTS, MAX_SCALE, MAX_TERMS}
+use Rattle.lop_certtext.specs.declared.version.CertVersion.{CertVersion}
+use Rattle.lop_certtext.specs.declared.version.CertVersion.TheVariants.{One, Two}
+use Rattle.lop_certtext.specs.RecordLine.{CutTerm, CertRecord, numbered_record, term_numbers, record_numbers, leaf_numbers, terms_of, are_rising, is_record_row, record_of, named_of, leaf_of}
+use Rattle.lop_certtext.specs.Tree.{split_line, IsRecord}
 use Rattle.lop_certtext.specs.Answer.{may_split, split_of}
 use Rattle.lop_certtext.proofs.PathLemmas.{undecided-may_split, may_split-undecided}
 use Rattle.lop_certtext.proofs.ObjectNumbers.{one_object, name_objects-numbers}
-use Rattle.lop_certtext.proofs.TreeBounds.{IsNumbered}
+use Rattle.lop_certtext.proofs.TreeBounds.{IsNumbered, numbered-rising}
 
 pos_abs : (z : ℤ) → is_count z ≡ true → pos (nat_abs z) ≡ z
 pos_abs (pos n) e = refl
@@ -60,75 +63,108 @@ small_multipliers (r ∷ m ∷ ns) e =
     let second = and_parts (is_count m) (list_all is_count ns) first.1 in
     All-cons (λ t. t.multiplier < 2 ^ 63) (record { cut = nat_abs r; multiplier = nat_abs m }) (terms_of ns) (small_abs m second.0) (small_multipliers ns second.1)
 
--- ---- leaves
+-- ---- records
 
--- what a leaf's line shows but for its bound
-pub record IsLeafLine (count : ℕ) (ns : List ℤ) (l : LeafTerms) : Type 0 where
-  pub line : leaf_line l ≡ record { word = Leaf; numbers = ns }
-  pub positive : 1 ≤ l.scale
-  pub within_limit : l.scale ≤ 65536
-  pub few : length l.terms ≤ 4096
-  pub rising : are_rising 0 count l.terms ≡ true
-  pub multipliers : All (λ t. t.multiplier < 2 ^ 63) l.terms
+-- numbers that spell a record
+pub record IsRecordRow (count : ℕ) (ns : List ℤ) (r : CertRecord) : Type 0 where
+  pub numbers : record_numbers r ≡ ns
+  pub is_record : IsRecord count r
 
 module _ (count s t : ℕ) (ns : List ℤ) where
   -- the parts of the test
-  leaf_parts : is_leaf_row count s t ns ≡ true → (1 ≤ s) × (s ≤ 65536) × (t ≤ 4096) × (length ns ≡ 2 * t) × (are_rising 0 count (terms_of ns) ≡ true)
-  leaf_parts e =
-      let first = and_parts (nat_le 1 s && nat_le s 65536 && nat_le t 4096 && eqb (length ns) (2 * t)) (are_rising 0 count (terms_of ns)) e in
-      let second = and_parts (nat_le 1 s && nat_le s 65536 && nat_le t 4096) (eqb (length ns) (2 * t)) first.0 in
-      let third = and_parts (nat_le 1 s && nat_le s 65536) (nat_le t 4096) second.0 in
-      let fourth = and_parts (nat_le 1 s) (nat_le s 65536) third.0 in
-      (leb-true 1 s fourth.0, leb-true s 65536 fourth.1, leb-true t 4096 third.1, eqb-true (length ns) (2 * t) second.1, first.1)
+  record_parts : is_record_row count s t ns ≡ true → (1 ≤ s) × (s ≤ MAX_SCALE) × (t ≤ MAX_TERMS) × (length ns ≡ 2 * t) × (are_rising 0 count (terms_of ns) ≡ true)
+  record_parts e =
+      let first = and_parts (nat_le 1 s && nat_le s MAX_SCALE && nat_le t MAX_TERMS && eqb (length ns) (2 * t)) (are_rising 0 count (terms_of ns)) e in
+      let second = and_parts (nat_le 1 s && nat_le s MAX_SCALE && nat_le t MAX_TERMS) (eqb (length ns) (2 * t)) first.0 in
+      let third = and_parts (nat_le 1 s && nat_le s MAX_SCALE) (nat_le t MAX_TERMS) second.0 in
+      let fourth = and_parts (nat_le 1 s) (nat_le s MAX_SCALE) third.0 in
+      (leb-true 1 s fourth.0, leb-true s MAX_SCALE fourth.1, leb-true t MAX_TERMS third.1, eqb-true (length ns) (2 * t) second.1, first.1)
 
-  leaf_test : 1 ≤ s → s ≤ 65536 → t ≤ 4096 → length ns ≡ 2 * t → are_rising 0 count (terms_of ns) ≡ true → is_leaf_row count s t ns ≡ true
-  leaf_test a b c d e = and_from _ _ (and_from _ _ (and_from _ _ (and_from _ _ (le-leb 1 s a) (le-leb s 65536 b)) (le-leb t 4096 c)) (eq-eqb (length ns) (2 * t) d)) e
+  record_test : 1 ≤ s → s ≤ MAX_SCALE → t ≤ MAX_TERMS → length ns ≡ 2 * t → are_rising 0 count (terms_of ns) ≡ true → is_record_row count s t ns ≡ true
+  record_test a b c d e = and_from _ _ (and_from _ _ (and_from _ _ (and_from _ _ (le-leb 1 s a) (le-leb s MAX_SCALE b)) (le-leb t MAX_TERMS c)) (eq-eqb (length ns) (2 * t) d)) e
 
-pub line-leaf_of : (count : ℕ) (ns : List ℤ) (l : LeafTerms) → is_row Leaf ns ≡ true → leaf_of count ns ≡ Some l → IsLeafLine count ns l
-line-leaf_of count [] l row e = absurd (cc)
-line-leaf_of count (s ∷ []) l row e = absurd (cc)
-line-leaf_of count (s ∷ t ∷ ns) l row e = by (is_leaf_row count (nat_abs s) (nat_abs t) ns) refl e
+pub row-record_of : (count : ℕ) (ns : List ℤ) (r : CertRecord) → are_counts ns ≡ true → record_of count ns ≡ Some r → IsRecordRow count ns r
+row-record_of count [] r row e = absurd (cc)
+row-record_of count (s ∷ []) r row e = absurd (cc)
+row-record_of count (s ∷ t ∷ ns) r row e = by (is_record_row count (nat_abs s) (nat_abs t) ns) refl e
   where
-    by : (b : Bool) → is_leaf_row count (nat_abs s) (nat_abs t) ns ≡ b → cond b (Some (record { scale = nat_abs s; terms = terms_of ns })) None ≡ Some l → IsLeafLine count (s ∷ t ∷ ns) l
+    by : (b : Bool) → is_record_row count (nat_abs s) (nat_abs t) ns ≡ b → cond b (Some (record { scale = nat_abs s; terms = terms_of ns })) None ≡ Some r → IsRecordRow count (s ∷ t ∷ ns) r
     by false is e = absurd (cc)
     by true is e =
-        let made : LeafTerms = record { scale = nat_abs s; terms = terms_of ns } in
-        let same : made ≡ l = cc in
-        let parts = leaf_parts count (nat_abs s) (nat_abs t) ns is in
+        let made : CertRecord = record { scale = nat_abs s; terms = terms_of ns } in
+        let same : made ≡ r = cc in
+        let parts = record_parts count (nat_abs s) (nat_abs t) ns is in
         let first = and_parts (is_count s) (list_all is_count (t ∷ ns)) row in
         let second = and_parts (is_count t) (list_all is_count ns) first.1 in
         let size = length-terms_of ns (nat_abs t) parts.3 in
-        subst (λ (x : LeafTerms). IsLeafLine count (s ∷ t ∷ ns) x) same record {
-          line = ap (λ (x : ℤ). record { word = Leaf; numbers = x ∷ pos (length (terms_of ns)) ∷ flat_map term_numbers (terms_of ns) }) (pos_abs s first.0)
-              ∙ ap (λ (x : ℕ). record { word = Leaf; numbers = s ∷ pos x ∷ flat_map term_numbers (terms_of ns) }) size
-              ∙ ap (λ (x : ℤ). record { word = Leaf; numbers = s ∷ x ∷ flat_map term_numbers (terms_of ns) }) (pos_abs t second.0)
-              ∙ ap (λ (x : List ℤ). record { word = Leaf; numbers = s ∷ t ∷ x }) (numbers-terms_of ns (nat_abs t) second.1 parts.3);
-          positive = parts.0;
-          within_limit = parts.1;
-          few = omega (arith, size, parts.2);
-          rising = parts.4;
-          multipliers = small_multipliers ns second.1;
+        subst (λ (x : CertRecord). IsRecordRow count (s ∷ t ∷ ns) x) same record {
+          numbers = ap (λ (x : ℤ). x ∷ pos (length (terms_of ns)) ∷ flat_map term_numbers (terms_of ns)) (pos_abs s first.0)
+              ∙ ap (λ (x : ℕ). s ∷ pos x ∷ flat_map term_numbers (terms_of ns)) size
+              ∙ ap (λ (x : ℤ). s ∷ x ∷ flat_map term_numbers (terms_of ns)) (pos_abs t second.0)
+              ∙ ap (λ (x : List ℤ). s ∷ t ∷ x) (numbers-terms_of ns (nat_abs t) second.1 parts.3);
+          is_record = record {
+            positive = parts.0;
+            within_limit = parts.1;
+            few = omega (arith, size, parts.2);
+            rising = parts.4;
+            multipliers = small_multipliers ns second.1;
+          };
         }
 
-pub leaf_of-line : (count : ℕ) (l : LeafTerms) → 1 ≤ l.scale → l.scale ≤ 65536 → length l.terms ≤ 4096 → are_rising 0 count l.terms ≡ true → leaf_of count (leaf_line l).numbers ≡ Some l
-leaf_of-line count l positive limit few rising =
-    let ns = flat_map term_numbers l.terms in
-    let t = length l.terms in
-    let same = terms_of-numbers l.terms in
-    let test = leaf_test count l.scale t ns positive limit few (length-term_numbers l.terms) (ap (are_rising 0 count) same ∙ rising) in
-    ap (λ (b : Bool). cond {A = Option LeafTerms} b (Some (record { scale = l.scale; terms = terms_of ns })) None) test
-    ∙ ap (λ (x : List CutTerm). Some (record { scale = l.scale; terms = x })) same
+pub record_of-numbers : (count : ℕ) (r : CertRecord) → IsRecord count r → record_of count (record_numbers r) ≡ Some r
+record_of-numbers count r is =
+    let ns = flat_map term_numbers r.terms in
+    let t = length r.terms in
+    let same = terms_of-numbers r.terms in
+    let test = record_test count r.scale t ns is.positive is.within_limit is.few (length-term_numbers r.terms) (ap (are_rising 0 count) same ∙ is.rising) in
+    ap (λ (b : Bool). cond {A = Option CertRecord} b (Some (record { scale = r.scale; terms = terms_of ns })) None) test
+    ∙ ap (λ (x : List CutTerm). Some (record { scale = r.scale; terms = x })) same
 
--- ---- a leaf's line is short enough
+-- ---- leaves
 
-pub counts-terms : (count : ℕ) (ts : List CutTerm) → count ≤ most_cuts → All (IsNumbered count) ts → All (λ t. t.multiplier < 2 ^ 63) ts → list_all is_count (flat_map term_numbers ts) ≡ true
+-- numbers that name a record of the list
+pub record IsNamed (records : List CertRecord) (ns : List ℤ) (r : CertRecord) : Type 0 where
+  pub number : ℕ
+  pub numbers : ns ≡ pos number ∷ []
+  pub from_one : 1 ≤ number
+  pub within : number ≤ length records
+  pub is_record : numbered_record records number ≡ r
+
+pub row-named_of : (records : List CertRecord) (ns : List ℤ) (r : CertRecord) → are_counts ns ≡ true → named_of records ns ≡ Some r → IsNamed records ns r
+row-named_of records [] r row e = absurd (cc)
+row-named_of records (i ∷ j ∷ ns) r row e = absurd (cc)
+row-named_of records (i ∷ []) r row e = by (nat_le 1 (nat_abs i) && nat_le (nat_abs i) (length records)) refl e
+  where
+    by : (b : Bool) → (nat_le 1 (nat_abs i) && nat_le (nat_abs i) (length records)) ≡ b → cond b (Some (numbered_record records (nat_abs i))) None ≡ Some r → IsNamed records (i ∷ []) r
+    by false is e = absurd (cc)
+    by true is e =
+        let parts = and_parts (nat_le 1 (nat_abs i)) (nat_le (nat_abs i) (length records)) is in
+        record {
+          number = nat_abs i;
+          numbers = ap (λ (x : ℤ). x ∷ []) (sym (pos_abs i (and_parts (is_count i) true row).0));
+          from_one = leb-true 1 (nat_abs i) parts.0;
+          within = leb-true (nat_abs i) (length records) parts.1;
+          is_record = cc;
+        }
+
+-- the line of a leaf gives the record that it names
+pub leaf_of-numbers : (version : CertVersion) (count : ℕ) (records : List CertRecord) (number : ℕ) → All (IsRecord count) records → 1 ≤ number → number ≤ length records
+    → leaf_of version count records (leaf_numbers version records number) ≡ Some (numbered_record records number)
+leaf_of-numbers One count records number right first last =
+    record_of-numbers count (numbered_record records number) (All-get_or (IsRecord count) records (number - 1) (record { scale = 1; terms = [] }) (omega arith) right)
+leaf_of-numbers Two count records number right first last =
+    ap (λ (b : Bool). cond {A = Option CertRecord} b (Some (numbered_record records number)) None) (and_from _ _ (le-leb 1 number first) (le-leb number (length records) last))
+
+-- ---- a record's numbers are few enough for a line
+
+pub counts-terms : (count : ℕ) (ts : List CutTerm) → count ≤ MAX_CUTS → All (IsNumbered count) ts → All (λ t. t.multiplier < 2 ^ 63) ts → list_all is_count (flat_map term_numbers ts) ≡ true
 counts-terms count [] limit numbered small = refl
 counts-terms count (t ∷ ts) limit numbered small =
     let n = All-head (IsNumbered count) t ts numbered in
     let m = All-head (λ x. x.multiplier < 2 ^ 63) t ts small in
     and_from _ _ (lt-ltb t.cut (2 ^ 63) (omega (arith, n.1))) (and_from _ _ (lt-ltb t.multiplier (2 ^ 63) m) (counts-terms count ts limit (All-tail (IsNumbered count) t ts numbered) (All-tail (λ x. x.multiplier < 2 ^ 63) t ts small)))
 
-length-term_words : (count : ℕ) (ts : List CutTerm) → count ≤ most_cuts → All (IsNumbered count) ts → All (λ t. t.multiplier < 2 ^ 63) ts → length (flat_map number_word (flat_map term_numbers ts)) ≤ 30 * length ts
+length-term_words : (count : ℕ) (ts : List CutTerm) → count ≤ MAX_CUTS → All (IsNumbered count) ts → All (λ t. t.multiplier < 2 ^ 63) ts → length (flat_map number_word (flat_map term_numbers ts)) ≤ 30 * length ts
 length-term_words count [] limit numbered small = omega arith
 length-term_words count (t ∷ ts) limit numbered small =
     let n = All-head (IsNumbered count) t ts numbered in
@@ -143,16 +179,24 @@ length-term_words count (t ∷ ts) limit numbered small =
       length-term_words count ts limit (All-tail (IsNumbered count) t ts numbered) (All-tail (λ x. x.multiplier < 2 ^ 63) t ts small),
     )
 
-pub length-leaf_line : (count : ℕ) (l : LeafTerms) → count ≤ most_cuts → l.scale ≤ 65536 → length l.terms ≤ 4096 → All (IsNumbered count) l.terms → All (λ t. t.multiplier < 2 ^ 63) l.terms → length (line_text (leaf_line l)) < 131072
-length-leaf_line count l limit scale few numbered small =
-    let rest = flat_map number_word (flat_map term_numbers l.terms) in
+pub counts-record : (count : ℕ) (r : CertRecord) → count ≤ MAX_CUTS → IsRecord count r → are_counts (record_numbers r) ≡ true
+counts-record count r limit is =
+    let scale : r.scale ≤ MAX_SCALE = is.within_limit in
+    let terms : length r.terms ≤ MAX_TERMS = is.few in
+    and_from _ _ (lt-ltb r.scale (2 ^ 63) (omega arith)) (and_from _ _ (lt-ltb (length r.terms) (2 ^ 63) (omega arith)) (counts-terms count r.terms limit (numbered-rising 0 count r.terms is.rising) is.multipliers))
+
+pub length-record_words : (count : ℕ) (r : CertRecord) → count ≤ MAX_CUTS → IsRecord count r → length (flat_map number_word (record_numbers r)) ≤ 122942
+length-record_words count r limit is =
+    let rest = flat_map number_word (flat_map term_numbers r.terms) in
+    let scale : r.scale ≤ MAX_SCALE = is.within_limit in
+    let terms : length r.terms ≤ MAX_TERMS = is.few in
     omega (
       arith,
-      length-append (number_word (pos l.scale)) (number_word (pos (length l.terms)) ++ rest),
-      length-append (number_word (pos (length l.terms))) rest,
-      length_signed_le 19 (pos l.scale) (omega arith) (omega arith),
-      length_signed_le 19 (pos (length l.terms)) (omega arith) (omega arith),
-      length-term_words count l.terms limit numbered small,
+      length-append (number_word (pos r.scale)) (number_word (pos (length r.terms)) ++ rest),
+      length-append (number_word (pos (length r.terms))) rest,
+      length_signed_le 19 (pos r.scale) (omega arith) (omega arith),
+      length_signed_le 19 (pos (length r.terms)) (omega arith) (omega arith),
+      length-term_words count r.terms limit (numbered-rising 0 count r.terms is.rising) is.multipliers,
     )
 
 -- ---- splits

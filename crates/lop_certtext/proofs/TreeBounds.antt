@@ -17,8 +17,8 @@ use Rattle.lop_model.proofs.FixingsLemmas.{IsLinearExtension-closure}
 use Rattle.lop_model.proofs.Closings.{IsClosure-closed}
 use Rattle.lop_cuts.specs.Certifying.{CertifiesUnder}
 use Rattle.lop_cuts.proofs.LagrangianLemmas.{AreValid-AreCuts, weight-le-certified}
-use Rattle.lop_certtext.specs.LeafLine.{CutTerm, LeafTerms, are_rising, cut_at, terms_in}
-use Rattle.lop_certtext.specs.Tree.{Tree, leaf, split, IsLeaf, IsTree}
+use Rattle.lop_certtext.specs.RecordLine.{CutTerm, CertRecord, numbered_record, are_rising, cut_at, terms_in}
+use Rattle.lop_certtext.specs.Tree.{Tree, leaf, split, IsRecord, IsLeaf, IsTree}
 use Rattle.lop_model.specs.Reversed.{reversed}
 use Rattle.lop_certtext.specs.Certificate.{Certificate, IsTreeCertificate}
 use Rattle.lop_certtext.proofs.PathLemmas.{extends_more}
@@ -49,25 +49,30 @@ one_way n s a b o la lb ne =
     elim (cases_lt (place_of s a) (place_of s b)) [ inl lt ↦ inl lt | inr ge ↦ inr (omega (arith, apart)) ]
 
 -- terms that certify a bound bound the orders that keep the path
-pub certified_bounds : (C : Matrix) (cuts : List CutKind) (b : ℤ) (path : List Pair) (l : LeafTerms) → All IsCut cuts → are_rising 0 (length cuts) l.terms ≡ true → CertifiesUnder C path l.scale (terms_in cuts l.terms) b → (s : List ℕ) → IsOrder C.size s → IsLinearExtension s path → weight C s ≤ℤ b
+pub certified_bounds : (C : Matrix) (cuts : List CutKind) (b : ℤ) (path : List Pair) (l : CertRecord) → All IsCut cuts → are_rising 0 (length cuts) l.terms ≡ true → CertifiesUnder C path l.scale (terms_in cuts l.terms) b → (s : List ℕ) → IsOrder C.size s → IsLinearExtension s path → weight C s ≤ℤ b
 certified_bounds C cuts b path l right rising certified s o x =
     let terms = terms_in cuts l.terms in
     weight-le-certified C (closed path) l.scale terms b s o (IsLinearExtension-closure s path (closed path) (IsClosure-closed path) x)
     (AreValid-AreCuts C.size terms (AreCuts-terms_in cuts l.terms right (numbered-rising 0 (length cuts) l.terms rising))) (certified.each (closed path) (IsClosure-closed path))
 
--- so does a leaf
-pub leaf_bounds : (C : Matrix) (cuts : List CutKind) (b : ℤ) (path : List Pair) (l : LeafTerms) → All IsCut cuts → IsLeaf C cuts b path l → (s : List ℕ) → IsOrder C.size s → IsLinearExtension s path → weight C s ≤ℤ b
-leaf_bounds C cuts b path l right is = certified_bounds C cuts b path l right is.rising is.certified
+module _ (C : Matrix) (cuts : List CutKind) (records : List CertRecord) (b : ℤ) (right : All IsCut cuts) (are : All (IsRecord (length cuts)) records) where
+  -- so does a leaf
+  pub leaf_bounds : (path : List Pair) (number : ℕ) → IsLeaf C cuts records b path number → (s : List ℕ) → IsOrder C.size s → IsLinearExtension s path → weight C s ≤ℤ b
+  leaf_bounds path number is =
+      let first : 1 ≤ number = is.from_one in
+      let last : number ≤ length records = is.within in
+      let r = All-get_or (IsRecord (length cuts)) records (number - 1) (record { scale = 1; terms = [] }) (omega arith) are in
+      certified_bounds C cuts b path (numbered_record records number) right r.rising is.certified
 
--- a tree bounds the orders that keep its path
-pub tree_bounds : (C : Matrix) (cuts : List CutKind) (b : ℤ) → All IsCut cuts → (path : List Pair) (tree : Tree) → IsTree C cuts b path tree → (s : List ℕ) → IsOrder C.size s → IsLinearExtension s path → weight C s ≤ℤ b
-tree_bounds C cuts b right path (leaf l) is s o x = leaf_bounds C cuts b path l right is s o x
-tree_bounds C cuts b right path (split p first second) is s o x =
-    elim (one_way C.size s p.before p.after o is.0.first is.0.second is.0.differ) [
-      | inl before ↦ tree_bounds C cuts b right (path ++ p ∷ []) first is.1 s o (extends_more s path p x before)
-      | inr after ↦ tree_bounds C cuts b right (path ++ reversed p ∷ []) second is.2 s o (extends_more s path (reversed p) x after)
-    ]
+  -- a tree bounds the orders that keep its path
+  pub tree_bounds : (path : List Pair) (tree : Tree) → IsTree C cuts records b path tree → (s : List ℕ) → IsOrder C.size s → IsLinearExtension s path → weight C s ≤ℤ b
+  tree_bounds path (leaf number) is s o x = leaf_bounds path number is s o x
+  tree_bounds path (split p first second) is s o x =
+      elim (one_way C.size s p.before p.after o is.0.first is.0.second is.0.differ) [
+        | inl before ↦ tree_bounds (path ++ p ∷ []) first is.1 s o (extends_more s path p x before)
+        | inr after ↦ tree_bounds (path ++ reversed p ∷ []) second is.2 s o (extends_more s path (reversed p) x after)
+      ]
 
 -- so no order weighs more than the bound of a true certificate
 pub IsUpperBound-certificate : (C : Matrix) (c : Certificate) → IsTreeCertificate C c → IsUpperBound C c.bound
-IsUpperBound-certificate C c h = record { each = λ s o. tree_bounds C c.cuts c.bound h.cuts_are [] c.tree h.tree_is s o (IsLinearExtension-none s) }
+IsUpperBound-certificate C c h = record { each = λ s o. tree_bounds C c.cuts c.records c.bound h.cuts_are h.records_are [] c.tree h.tree_is s o (IsLinearExtension-none s) }

@@ -6,8 +6,9 @@ use std::test::Fail;
 
 #[test]
 fn lines_read_and_written(rt: HostRuntime) -> Result<(), Fail> {
-    let lines: [(&[u8], CertWord, &[i64]); 20] = [
+    let lines: [(&[u8], CertWord, &[i64]); 26] = [
         (b"lopcert 1", CertWord::Version, &[1]),
+        (b"lopcert 2", CertWord::Version, &[2]),
         (b"objects 0", CertWord::Objects, &[0]),
         (
             b"objects 9223372036854775807",
@@ -35,9 +36,14 @@ fn lines_read_and_written(rt: HostRuntime) -> Result<(), Fail> {
         (b"dicycle 0", CertWord::Dicycle, &[0]),
         (b"fence 1 2", CertWord::Fence, &[1, 2]),
         (b"ladder 3 3 1 2", CertWord::Ladder, &[3, 3, 1, 2]),
+        (b"records 0", CertWord::RecordsLine, &[0]),
+        (b"records 1048576", CertWord::RecordsLine, &[1_048_576]),
+        (b"record 1 0", CertWord::RecordLine, &[1, 0]),
+        (b"record 0", CertWord::RecordLine, &[0]),
         (b"split 1 2", CertWord::SplitLine, &[1, 2]),
         (b"leaf 1 0", CertWord::Leaf, &[1, 0]),
         (b"leaf 2 1 5", CertWord::Leaf, &[2, 1, 5]),
+        (b"leaf 3", CertWord::Leaf, &[3]),
         (b"end", CertWord::End, &[]),
     ];
     let mut room = NumberRoom::new(rt.alloc())?;
@@ -68,11 +74,13 @@ fn round_trip(
 
 #[test]
 fn texts_that_are_no_lines(rt: HostRuntime) -> Result<(), Fail> {
-    let texts: [&[u8]; 37] = [
+    let texts: [&[u8]; 43] = [
         b"",
         b" ",
         b"lopcert",
-        b"lopcert 2",
+        b"lopcert 0",
+        b"lopcert 3",
+        b"lopcert 12",
         b"lopcert 1 1",
         b"Lopcert 1",
         b"lopcert 1\r",
@@ -98,6 +106,10 @@ fn texts_that_are_no_lines(rt: HostRuntime) -> Result<(), Fail> {
         b"value -9223372036854775808",
         b"cuts 1048577",
         b"cuts 0 0",
+        b"records",
+        b"records 1048577",
+        b"record",
+        b"record -1 0",
         b"dicycle",
         b"fence",
         b"ladder -3",

@@ -8,22 +8,20 @@ use Rattle.std.proofs.lemmas.List.{append-nil, get_or-map, take_more, length-map
 use Rattle.std.proofs.lemmas.List.Elements.{All-push, All-map}
 use Rattle.lop_core.specs.declared.records.NumberedTerm.{NumberedTerm}
 use Rattle.lop_core.specs.Records.{NodeRecord, IsNodeRecord}
-use Rattle.lop_certtext.specs.declared.word.CertWord.TheVariants.{Leaf}
 use Rattle.lop_certtext.specs.Line.{CertLine, is_row, line_text}
 use Rattle.lop_cuts.specs.declared.kind.Cycle.{Cycle}
 use Rattle.lop_certtext.specs.CutLine.{cycle_numbers, IsShapedCycle}
-use Rattle.lop_certtext.specs.LeafLine.{CutTerm, LeafTerms, term_numbers, are_rising, leaf_line}
-use Rattle.lop_certtext.proofs.TreeBounds.{numbered-rising}
-use Rattle.lop_certtext.proofs.NodeText.{counts-terms, length-leaf_line}
-use Rattle.lop_certtext.proofs.AcceptedText.{written}
-use Rattle.lop_certwrite.specs.CoreTree.{leaf_of_record}
+use Rattle.lop_certtext.specs.RecordLine.{CutTerm, term_numbers, are_rising, record_line}
+use Rattle.lop_certtext.specs.Tree.{IsRecord}
+use Rattle.lop_certtext.proofs.AcceptedText.{IsWritten, written, record_written}
+use Rattle.lop_certwrite.specs.CoreTree.{cert_record_of}
 
 -- what the elements of a list give, with one element more
 pub flat_more : {X A : Type 0} (f : X → List A) (xs : List X) (i : ℕ) (d : X) → i < length xs → flat_map f (take (i + 1) xs) ≡ flat_map f (take i xs) ++ f (get_or xs i d)
 flat_more {X} {A} f xs i d inside =
     ap (flat_map f) (take_more xs i d inside) ∙ (flat_map-append f (take i xs) (get_or xs i d ∷ []) ∙ ap (λ (l : List A). flat_map f (take i xs) ++ l) (append-nil (f (get_or xs i d))))
 
--- a term as a leaf has it
+-- a term as a certificate has it
 abbrev pub numbered : NumberedTerm → CutTerm
 numbered t = record { cut = t.cut + 1; multiplier = t.multiplier }
 
@@ -31,11 +29,11 @@ abbrev some_term : NumberedTerm
 some_term = record { cut = 0; multiplier = 0 }
 
 -- one more term
-pub term_more : (r : NodeRecord) (head old mid new : List ℤ) (i cut multiplier : ℕ) (x y : ℤ) → old ≡ head ++ flat_map term_numbers (take i (leaf_of_record r).terms) → mid ≡ old ++ x ∷ [] → new ≡ mid ++ y ∷ []
+pub term_more : (r : NodeRecord) (head old mid new : List ℤ) (i cut multiplier : ℕ) (x y : ℤ) → old ≡ head ++ flat_map term_numbers (take i (cert_record_of r).terms) → mid ≡ old ++ x ∷ [] → new ≡ mid ++ y ∷ []
     → x ≡ pos (cut + 1) → y ≡ pos multiplier → ((d : NumberedTerm) → get_or r.terms i d ≡ record { cut = cut; multiplier = multiplier }) → i < length r.terms
-    → new ≡ head ++ flat_map term_numbers (take (i + 1) (leaf_of_record r).terms)
+    → new ≡ head ++ flat_map term_numbers (take (i + 1) (cert_record_of r).terms)
 term_more r head old mid new i cut multiplier x y e f g ex ey read inside =
-    let ts = (leaf_of_record r).terms in
+    let ts = (cert_record_of r).terms in
     let longer : i < length (map numbered r.terms) = omega (arith, length-map r.terms numbered) in
     let here : get_or (map numbered r.terms) i (numbered some_term) ≡ record { cut = cut + 1; multiplier = multiplier } =
     get_or-map numbered r.terms i some_term (numbered some_term) inside ∙ ap numbered (read some_term) in
@@ -49,7 +47,7 @@ term_more r head old mid new i cut multiplier x y e f g ex ey read inside =
     ∙ ap (λ (z : ℤ). head ++ (before ++ pos (cut + 1) ∷ z ∷ [])) ey
     ∙ ap (λ (l : List ℤ). head ++ l) (sym more)
 
--- ---- the conditions of a leaf
+-- ---- the conditions of a record
 
 terms_rising : (count last : ℕ) (ts : List NumberedTerm) → ((k : ℕ) (d : NumberedTerm) → k < length ts → last ≤ (get_or ts k d).cut) → AllPairs (λ t u. t.cut < u.cut) ts → All (λ t. t.cut < count) ts → All (λ t. 1 ≤ t.multiplier) ts
     → are_rising last count (map (λ t. record { cut = t.cut + 1; multiplier = t.multiplier }) ts) ≡ true
@@ -82,32 +80,29 @@ shaped_more cs i d so_far own inside = subst (All IsShapedCycle) (sym (take_more
 pub short_line : (l : CertLine) → is_row l.word l.numbers ≡ true → length l.numbers ≤ 1000 → length (line_text l) < 131072
 short_line l row few = (written l row few).short
 
--- the line of a record
-pub record IsLeafRow (l : LeafTerms) : Type 0 where
-  pub row : is_row Leaf (leaf_line l).numbers ≡ true
-  pub short : length (line_text (leaf_line l)) < 131072
-
 module _ (count : ℕ) (r : NodeRecord) (h : IsNodeRecord count r) where
-  pub record_rising : are_rising 0 count (leaf_of_record r).terms ≡ true
+  pub record_rising : are_rising 0 count (cert_record_of r).terms ≡ true
   record_rising = terms_rising count 0 r.terms (λ k d l. omega arith) h.rising h.listed (λ k d l. (h.multipliers k d l).positive)
 
-  pub record_small : All (λ t. t.multiplier < 2 ^ 63) (leaf_of_record r).terms
+  pub record_small : All (λ t. t.multiplier < 2 ^ 63) (cert_record_of r).terms
   record_small = All-map (λ t. t.multiplier < 2 ^ 63) numbered r.terms (λ k d l. (h.multipliers k d l).within_limit)
 
-  pub record_few : length (leaf_of_record r).terms ≤ 4096
+  pub record_few : length (cert_record_of r).terms ≤ 4096
   record_few =
       let size : length (map numbered r.terms) ≡ length r.terms = length-map r.terms numbered in
       let bounded = h.bounded_count in
       omega arith
 
-pub leaf_row : (count : ℕ) (r : NodeRecord) → count ≤ 65536 → IsNodeRecord count r → IsLeafRow (leaf_of_record r)
-leaf_row count r few h =
-    let ts = (leaf_of_record r).terms in
-    let numbered_all = numbered-rising 0 count ts (record_rising count r h) in
-    let small = record_small count r h in
-    let few_terms = record_few count r h in
-    let scale = h.within_limit in
-    record {
-      row = and_from _ _ (lt-ltb r.scale (2 ^ 63) (omega arith)) (and_from _ _ (lt-ltb (length ts) (2 ^ 63) (omega arith)) (counts-terms count ts (omega arith) numbered_all small));
-      short = length-leaf_line count (leaf_of_record r) (omega arith) h.within_limit few_terms numbered_all small;
-    }
+  -- a node's record is one of a certificate
+  pub record_right : IsRecord count (cert_record_of r)
+  record_right = record {
+    positive = h.positive;
+    within_limit = h.within_limit;
+    few = record_few;
+    rising = record_rising;
+    multipliers = record_small;
+  }
+
+  -- its line may be written
+  pub record_row : count ≤ 65536 → IsWritten (record_line (cert_record_of r))
+  record_row few = record_written count (cert_record_of r) (omega arith) record_right

@@ -1,9 +1,11 @@
 pub mod Growth
+pub mod Users
 pub mod WalkLemmas
 pub mod LeafLemmas
 pub mod Written
-pub mod Walked
-pub mod TreeHolds
 pub mod CutLines
+pub mod Walked
 pub mod Pieces
+pub mod TreeHolds
+pub mod Limits
 pub mod TreeSize

@@ -8,12 +8,8 @@ use Rattle.lop_core.specs.declared.node.SearchNode.{SearchNode}
 use Rattle.lop_core.specs.declared.node.Standing.{Standing}
 use Rattle.lop_core.specs.declared.node.Standing.TheVariants.{Idle, Out, Split}
 use Rattle.lop_core.specs.Tree.{node_at, is_split, IsOpen, AreLinked}
-use Rattle.lop_core.specs.Records.{NodeRecord, record_at}
-use Rattle.lop_certtext.specs.Line.{CertLine}
-use Rattle.lop_certtext.specs.LeafLine.{leaf_line}
-use Rattle.lop_certtext.specs.Tree.{split_line}
-use Rattle.lop_certwrite.specs.CoreTree.{NodeTree, one_node, two_below, IsSplitInto, IsTreeAt, leaf_of_record}
-use Rattle.lop_certwrite.specs.Walk.{IsPending, at_root, at_first, at_second, IsAt, IsLeft, IsNext, IsNextUp, is_first_of, line_by, node_line, lines_of, lines_of_all}
+use Rattle.lop_certwrite.specs.CoreTree.{NodeTree, one_node, two_below, IsSplitInto, IsTreeAt}
+use Rattle.lop_certwrite.specs.Walk.{IsPending, at_root, at_first, at_second, IsAt, IsLeft, IsNext, IsNextUp, is_first_of, Visit, at_split, at_open, visit_by, visit_at, visits_of, visits_of_all}
 
 -- the node at a place of the list
 node_is : (nodes : List SearchNode) (i : ℕ) (x : SearchNode) → slice_get nodes i ≡ Some x → node_at nodes i ≡ x
@@ -52,16 +48,16 @@ up_root nodes at [] z (at_root node e) = refl
 up_root nodes at (_ ∷ _) z (at_first parent first pair second rest s t p) = absurd (omega (arith, s.later))
 up_root nodes at trees z (at_second parent first pair node rest s e p) = absurd (omega arith)
 
-pub up_first : (nodes : List SearchNode) (records : List NodeRecord) (at : ℕ) (trees : List NodeTree) → at ≢ 0 → is_first_child nodes at ≡ true → IsPending nodes at trees → IsAt nodes records (at + 1) (lines_of_all records trees)
-up_first nodes records at [] ne h (at_root node e) = absurd (ne e)
-up_first nodes records at (_ ∷ _) ne h (at_first parent first pair second rest s t p) = record {
+pub up_first : (nodes : List SearchNode) (at : ℕ) (trees : List NodeTree) → at ≢ 0 → is_first_child nodes at ≡ true → IsPending nodes at trees → IsAt nodes (at + 1) (visits_of_all trees)
+up_first nodes at [] ne h (at_root node e) = absurd (ne e)
+up_first nodes at (_ ∷ _) ne h (at_first parent first pair second rest s t p) = record {
   tree = second;
   rest = rest;
   is_tree = t;
   pending = at_second parent first pair (first + 1) rest s refl p;
-  lines_are = refl;
+  visits_are = refl;
 }
-up_first nodes records at trees ne h (at_second parent first pair node rest s e p) =
+up_first nodes at trees ne h (at_second parent first pair node rest s e p) =
     let f : false ≡ true = sym (second_is_not nodes parent first pair s) ∙ (ap (is_first_child nodes) (sym e) ∙ h) in
     cc
 
@@ -75,10 +71,10 @@ up_second nodes at trees ne h (at_second parent first pair node rest s e p) =
 
 -- ---- down, and from a leaf on
 
-open_line : (nodes : List SearchNode) (records : List NodeRecord) (node : ℕ) (standing : Standing) → is_split standing ≡ false → line_by nodes records standing node ≡ leaf_line (leaf_of_record (record_at records node))
-open_line nodes records node Idle e = refl
-open_line nodes records node (Out w) e = refl
-open_line nodes records node (Split first) e = absurd (cc)
+pub open_visit : (nodes : List SearchNode) (node : ℕ) (standing : Standing) → is_split standing ≡ false → visit_by nodes standing node ≡ at_open node
+open_visit nodes node Idle e = refl
+open_visit nodes node (Out w) e = refl
+open_visit nodes node (Split first) e = absurd (cc)
 
 -- an open node isn't split
 open_standing : (nodes : List SearchNode) (node : ℕ) → IsOpen nodes node → is_split (node_at nodes node).standing ≡ false
@@ -87,48 +83,48 @@ open_standing nodes node o = ap (λ (x : SearchNode). is_split x.standing) (node
 split_injective : (a b : ℕ) → Split a ≡ Split b → a ≡ b
 split_injective a b e = cc
 
-module _ (nodes : List SearchNode) (records : List NodeRecord) (node : ℕ) where
-  -- the first line that is left is the node's own
-  own_line : (tree : NodeTree) (rest : List NodeTree) (lines : List CertLine) → IsTreeAt nodes node tree → lines ≡ lines_of records tree ++ lines_of_all records rest → (more : List CertLine) × (lines ≡ node_line nodes records node ∷ more)
-  own_line (one_node number) rest lines t e =
-      (lines_of_all records rest, e ∙ ap (λ (l : CertLine). l ∷ lines_of_all records rest) (ap (λ (k : ℕ). leaf_line (leaf_of_record (record_at records k))) t.0 ∙ sym (open_line nodes records node (node_at nodes node).standing (open_standing nodes node t.1))))
-  own_line (two_below pair a b) rest lines t e =
-      let line : node_line nodes records node ≡ split_line pair =
-      ap (λ (s : Standing). line_by nodes records s node) (standing_is nodes node t.0 pair t.1) ∙ ap (λ (x : SearchNode). split_line x.pair) (node_is nodes t.0 t.1.one t.1.one_there) ∙ ap split_line t.1.one_pair in
-      ((lines_of records a ++ lines_of records b) ++ lines_of_all records rest, e ∙ ap (λ (l : CertLine). l ∷ ((lines_of records a ++ lines_of records b) ++ lines_of_all records rest)) (sym line))
+module _ (nodes : List SearchNode) (node : ℕ) where
+  -- the first visit that is left is the node's own
+  own_visit : (tree : NodeTree) (rest : List NodeTree) (visits : List Visit) → IsTreeAt nodes node tree → visits ≡ visits_of tree ++ visits_of_all rest → (more : List Visit) × (visits ≡ visit_at nodes node ∷ more)
+  own_visit (one_node number) rest visits t e =
+      (visits_of_all rest, e ∙ ap (λ (l : Visit). l ∷ visits_of_all rest) (ap (λ (k : ℕ). at_open k) t.0 ∙ sym (open_visit nodes node (node_at nodes node).standing (open_standing nodes node t.1))))
+  own_visit (two_below pair a b) rest visits t e =
+      let line : visit_at nodes node ≡ at_split pair =
+      ap (λ (s : Standing). visit_by nodes s node) (standing_is nodes node t.0 pair t.1) ∙ ap (λ (x : SearchNode). at_split x.pair) (node_is nodes t.0 t.1.one t.1.one_there) ∙ ap at_split t.1.one_pair in
+      ((visits_of a ++ visits_of b) ++ visits_of_all rest, e ∙ ap (λ (l : Visit). l ∷ ((visits_of a ++ visits_of b) ++ visits_of_all rest)) (sym line))
 
-  pub first_line : (lines : List CertLine) → IsAt nodes records node lines → (more : List CertLine) × (lines ≡ node_line nodes records node ∷ more)
-  first_line lines a = own_line a.tree a.rest lines a.is_tree a.lines_are
+  pub first_visit : (visits : List Visit) → IsAt nodes node visits → (more : List Visit) × (visits ≡ visit_at nodes node ∷ more)
+  first_visit visits a = own_visit a.tree a.rest visits a.is_tree a.visits_are
 
-  first_next : (first : ℕ) → (node_at nodes node).standing ≡ Split first → (tree : NodeTree) (rest : List NodeTree) (lines : List CertLine) → IsTreeAt nodes node tree → IsPending nodes node rest → lines ≡ lines_of records tree ++ lines_of_all records rest
-      → (more : List CertLine) × (lines ≡ node_line nodes records node ∷ more) × IsLeft nodes records first more
-  first_next first st (one_node number) rest lines t p e =
+  first_next : (first : ℕ) → (node_at nodes node).standing ≡ Split first → (tree : NodeTree) (rest : List NodeTree) (visits : List Visit) → IsTreeAt nodes node tree → IsPending nodes node rest → visits ≡ visits_of tree ++ visits_of_all rest
+      → (more : List Visit) × (visits ≡ visit_at nodes node ∷ more) × IsLeft nodes first more
+  first_next first st (one_node number) rest visits t p e =
       let f : false ≡ true = sym (open_standing nodes node t.1) ∙ ap is_split st in
       cc
-  first_next first st (two_below pair a b) rest lines t p e =
+  first_next first st (two_below pair a b) rest visits t p e =
       let same : t.0 ≡ first = split_injective t.0 first (sym (standing_is nodes node t.0 pair t.1) ∙ st) in
-      let line : node_line nodes records node ≡ split_line pair =
-      ap (λ (s : Standing). line_by nodes records s node) (standing_is nodes node t.0 pair t.1) ∙ ap (λ (x : SearchNode). split_line x.pair) (node_is nodes t.0 t.1.one t.1.one_there) ∙ ap split_line t.1.one_pair in (
-        lines_of records a ++ (lines_of records b ++ lines_of_all records rest),
-        e ∙ ap (λ (ls : List CertLine). split_line pair ∷ ls) (append_assoc (lines_of records a) (lines_of records b) (lines_of_all records rest))
-            ∙ ap (λ (l : CertLine). l ∷ (lines_of records a ++ (lines_of records b ++ lines_of_all records rest))) (sym line),
-        inr (subst (λ (k : ℕ). IsAt nodes records k (lines_of records a ++ (lines_of records b ++ lines_of_all records rest))) same
-            (record { tree = a; rest = b ∷ rest; is_tree = t.2; pending = at_first node t.0 pair b rest t.1 t.3 p; lines_are = refl })),
+      let line : visit_at nodes node ≡ at_split pair =
+      ap (λ (s : Standing). visit_by nodes s node) (standing_is nodes node t.0 pair t.1) ∙ ap (λ (x : SearchNode). at_split x.pair) (node_is nodes t.0 t.1.one t.1.one_there) ∙ ap at_split t.1.one_pair in (
+        visits_of a ++ (visits_of b ++ visits_of_all rest),
+        e ∙ ap (λ (ls : List Visit). at_split pair ∷ ls) (append_assoc (visits_of a) (visits_of b) (visits_of_all rest))
+            ∙ ap (λ (l : Visit). l ∷ (visits_of a ++ (visits_of b ++ visits_of_all rest))) (sym line),
+        inr (subst (λ (k : ℕ). IsAt nodes k (visits_of a ++ (visits_of b ++ visits_of_all rest))) same
+            (record { tree = a; rest = b ∷ rest; is_tree = t.2; pending = at_first node t.0 pair b rest t.1 t.3 p; visits_are = refl })),
       )
 
-  leaf_next : (next : ℕ) → is_split (node_at nodes node).standing ≡ false → IsNextUp nodes records node next → (tree : NodeTree) (rest : List NodeTree) (lines : List CertLine) → IsTreeAt nodes node tree → IsPending nodes node rest → lines ≡ lines_of records tree ++ lines_of_all records rest
-      → (more : List CertLine) × (lines ≡ node_line nodes records node ∷ more) × IsLeft nodes records next more
-  leaf_next next st up (one_node number) rest lines t p e =
-      (lines_of_all records rest, e ∙ ap (λ (l : CertLine). l ∷ lines_of_all records rest) (ap (λ (k : ℕ). leaf_line (leaf_of_record (record_at records k))) t.0 ∙ sym (open_line nodes records node (node_at nodes node).standing st)), up.each rest p)
-  leaf_next next st up (two_below pair a b) rest lines t p e =
+  leaf_next : (next : ℕ) → is_split (node_at nodes node).standing ≡ false → IsNextUp nodes node next → (tree : NodeTree) (rest : List NodeTree) (visits : List Visit) → IsTreeAt nodes node tree → IsPending nodes node rest → visits ≡ visits_of tree ++ visits_of_all rest
+      → (more : List Visit) × (visits ≡ visit_at nodes node ∷ more) × IsLeft nodes next more
+  leaf_next next st up (one_node number) rest visits t p e =
+      (visits_of_all rest, e ∙ ap (λ (l : Visit). l ∷ visits_of_all rest) (ap (λ (k : ℕ). at_open k) t.0 ∙ sym (open_visit nodes node (node_at nodes node).standing st)), up.each rest p)
+  leaf_next next st up (two_below pair a b) rest visits t p e =
       let f : false ≡ true = sym st ∙ ap is_split (standing_is nodes node t.0 pair t.1) in
       cc
 
-  pub next_first : (first : ℕ) → (node_at nodes node).standing ≡ Split first → IsNext nodes records node first
-  next_first first st = record { each = λ lines a. first_next first st a.tree a.rest lines a.is_tree a.pending a.lines_are }
+  pub next_first : (first : ℕ) → (node_at nodes node).standing ≡ Split first → IsNext nodes node first
+  next_first first st = record { each = λ visits a. first_next first st a.tree a.rest visits a.is_tree a.pending a.visits_are }
 
-  pub next_leaf : (next : ℕ) → is_split (node_at nodes node).standing ≡ false → IsNextUp nodes records node next → IsNext nodes records node next
-  next_leaf next st up = record { each = λ lines a. leaf_next next st up a.tree a.rest lines a.is_tree a.pending a.lines_are }
+  pub next_leaf : (next : ℕ) → is_split (node_at nodes node).standing ≡ false → IsNextUp nodes node next → IsNext nodes node next
+  next_leaf next st up = record { each = λ visits a. leaf_next next st up a.tree a.rest visits a.is_tree a.pending a.visits_are }
 
 -- ---- the nodes of a tree are in the list
 
@@ -150,12 +146,12 @@ module _ (nodes : List SearchNode) (at parent : ℕ) (ne : at ≢ 0) (e : parent
   pub parent_before : AreLinked nodes → at < length nodes → parent < at
   parent_before linked inside = rw e ((linked at (node_at nodes at) (slice_get-get_or nodes at _ inside) (omega (arith, ne))).0)
 
-  pub goes_first : (records : List NodeRecord) (node : ℕ) → is_first_of (node_at nodes parent).standing at ≡ true → ((trees : List NodeTree) → IsPending nodes node trees → IsPending nodes at trees) → IsNextUp nodes records node (at + 1)
-  goes_first records node first same = record { each = λ trees p. inr (up_first nodes records at trees ne (ap (λ (k : ℕ). is_first_of (node_at nodes k).standing at) (sym e) ∙ first) (same trees p)) }
+  pub goes_first : (node : ℕ) → is_first_of (node_at nodes parent).standing at ≡ true → ((trees : List NodeTree) → IsPending nodes node trees → IsPending nodes at trees) → IsNextUp nodes node (at + 1)
+  goes_first node first same = record { each = λ trees p. inr (up_first nodes at trees ne (ap (λ (k : ℕ). is_first_of (node_at nodes k).standing at) (sym e) ∙ first) (same trees p)) }
 
   pub goes_up : (trees : List NodeTree) → is_first_of (node_at nodes parent).standing at ≡ false → IsPending nodes at trees → IsPending nodes parent trees
   goes_up trees first p = subst (λ (k : ℕ). IsPending nodes k trees) (sym e) (up_second nodes at trees ne (ap (λ (k : ℕ). is_first_of (node_at nodes k).standing at) (sym e) ∙ first) p)
 
 -- at the root nothing is left
-pub ends_up : (nodes : List SearchNode) (records : List NodeRecord) (node at : ℕ) → at ≡ 0 → ((trees : List NodeTree) → IsPending nodes node trees → IsPending nodes at trees) → IsNextUp nodes records node 0
-ends_up nodes records node at z same = record { each = λ trees p. inl (ap (lines_of_all records) (up_root nodes at trees z (same trees p))) }
+pub ends_up : (nodes : List SearchNode) (node at : ℕ) → at ≡ 0 → ((trees : List NodeTree) → IsPending nodes node trees → IsPending nodes at trees) → IsNextUp nodes node 0
+ends_up nodes node at z same = record { each = λ trees p. inl (ap visits_of_all (up_root nodes at trees z (same trees p))) }

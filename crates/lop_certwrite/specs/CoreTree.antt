@@ -1,14 +1,15 @@
 -- The nodes of a core as the tree of its certificate.
-use Rattle.std.specs.Prelude.{◌≡◌, ℕ, ◌+◌, ◌<◌, List, length, map, slice_get, Some}
+use Rattle.std.specs.Prelude.{◌≡◌, ℕ, ◌+◌, ◌<◌, Bool, ◌==◌, List, [], ◌∷◌, ◌++◌, length, map, slice_get, Some, if◌then◌else◌}
+use Rattle.std.specs.List.{list_any, position_or_len}
 use Rattle.lop_model.specs.declared.pair.Pair.{Pair}
 use Rattle.lop_core.specs.declared.node.SearchNode.{SearchNode}
 use Rattle.lop_core.specs.declared.node.Standing.TheVariants.{Split}
 use Rattle.lop_core.specs.Tree.{IsOpen}
 use Rattle.lop_model.specs.Reversed.{reversed}
-use Rattle.lop_core.specs.Records.{NodeRecord, record_at}
+use Rattle.lop_core.specs.Records.{NodeRecord, record_at, number_at}
 use Rattle.lop_core.specs.Core.{CoreFields}
 use Rattle.lop_core.specs.Machine.{state_bound}
-use Rattle.lop_certtext.specs.LeafLine.{LeafTerms}
+use Rattle.lop_certtext.specs.RecordLine.{CertRecord}
 use Rattle.lop_certtext.specs.Tree.{Tree, leaf, split}
 use Rattle.lop_certtext.specs.Certificate.{Certificate}
 
@@ -43,14 +44,40 @@ IsTreeAt nodes node (one_node number) = (number ≡ node) × IsOpen nodes node
 IsTreeAt nodes node (two_below pair first second) =
     (child : ℕ) × IsSplitInto nodes node child pair × IsTreeAt nodes child first × IsTreeAt nodes (child + 1) second
 
--- a node's record as a leaf has it, where cuts count from 1
-abbrev pub leaf_of_record : NodeRecord → LeafTerms
-leaf_of_record r = record { scale = r.scale; terms = map (λ t. record { cut = t.cut + 1; multiplier = t.multiplier }) r.terms }
+-- a node's record as a certificate has it, where cuts count from 1
+abbrev pub cert_record_of : NodeRecord → CertRecord
+cert_record_of r = record { scale = r.scale; terms = map (λ t. record { cut = t.cut + 1; multiplier = t.multiplier }) r.terms }
 
--- the tree of a certificate: each leaf has its node's record
-abbrev pub certificate_tree : List NodeRecord → NodeTree → Tree
-certificate_tree records (one_node number) = leaf (leaf_of_record (record_at records number))
-certificate_tree records (two_below pair first second) = split pair (certificate_tree records first) (certificate_tree records second)
+-- the nodes that aren't split, in preorder
+abbrev pub open_nodes : NodeTree → List ℕ
+open_nodes (one_node number) = number ∷ []
+open_nodes (two_below pair first second) = open_nodes first ++ open_nodes second
+
+-- one of the nodes has the record of this one
+abbrev pub is_used : List ℕ → List ℕ → ℕ → Bool
+is_used numbers users node = list_any (λ other. number_at numbers other == number_at numbers node) users
+
+-- the nodes with one more, if none of them has its record
+abbrev pub with_user : List ℕ → List ℕ → ℕ → List ℕ
+with_user numbers users node = if is_used numbers users node then users else users ++ node ∷ []
+
+-- the first node of each record, in turn, behind those so far; records are told apart by their numbers
+abbrev pub users_from : List ℕ → List ℕ → List ℕ → List ℕ
+users_from numbers users [] = users
+users_from numbers users (node ∷ nodes) = users_from numbers (with_user numbers users node) nodes
+
+-- the first node of each record that leaves use, in the order of that first use
+abbrev pub users_in : List ℕ → NodeTree → List ℕ
+users_in numbers tree = users_from numbers [] (open_nodes tree)
+
+-- the place, from 1, of a node's record among those of the users
+abbrev pub place_among : List ℕ → List ℕ → ℕ → ℕ
+place_among numbers users node = position_or_len (λ other. number_at numbers other == number_at numbers node) users + 1
+
+-- the tree of a certificate: each leaf names its node's record
+abbrev pub certificate_tree : List ℕ → List ℕ → NodeTree → Tree
+certificate_tree numbers users (one_node number) = leaf (place_among numbers users number)
+certificate_tree numbers users (two_below pair first second) = split pair (certificate_tree numbers users first) (certificate_tree numbers users second)
 
 -- the whole tree: that of the root, with each node of the list
 pub record WholeTree (nodes : List SearchNode) : Type 0 where
@@ -58,11 +85,12 @@ pub record WholeTree (nodes : List SearchNode) : Type 0 where
   pub is_tree : IsTreeAt nodes 0 tree
   pub complete : node_count tree ≡ length nodes
 
--- the certificate of a core: best with its order, the core's bound, its cuts in order, and its tree
+-- the certificate of a core: best with its order, the core's bound, its cuts in order, the records that leaves use, each once, in the order of their first use in preorder, and its tree
 pub record IsCertificateOf (core : CoreFields) (c : Certificate) : Type 0 where
   pub order_is : c.order ≡ core.order
   pub value_is : c.value ≡ core.state.best
   pub bound_is : c.bound ≡ state_bound core.state
   pub cuts_are : c.cuts ≡ core.book.cuts
   pub whole : WholeTree core.state.nodes
-  pub tree_is : c.tree ≡ certificate_tree core.book.records whole.tree
+  pub records_are : c.records ≡ map (λ node. cert_record_of (record_at core.book.records node)) (users_in core.book.numbers whole.tree)
+  pub tree_is : c.tree ≡ certificate_tree core.book.numbers (users_in core.book.numbers whole.tree) whole.tree

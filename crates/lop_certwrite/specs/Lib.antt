@@ -1,2 +1,3 @@
 pub mod CoreTree
+pub mod Names
 pub mod Walk

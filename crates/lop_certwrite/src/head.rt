@@ -1,6 +1,6 @@
 // The lines before the cuts.
 ghost use Rattle.std.specs.Prelude.{◌≡◌, ◌≤◌, ◌<◌, ◌^◌, length, nat_abs};
-ghost use Rattle.lop_model.specs.Order.{IsOrder};
+ghost use Rattle.lop_model.specs.declared.weights.TheConstants.{MAX_OBJECTS};
 ghost use Rattle.lop_desk.specs.Desk.{IsMaking};
 ghost use Rattle.lop_desk.specs.Whole.{WritesAll};
 ghost use Rattle.lop_desk.specs.Causes.{HasCause};
@@ -22,12 +22,12 @@ pub fn write_order_lines<D: Desk>(
 ) -> Result<(), DeskFailed>
     requires making { IsMaking (D.told desk.old) }
     requires positive { 1 ≤ length order.now }
-    requires within_limit { length order.now ≤ 512 }
+    requires within_limit { length order.now ≤ MAX_OBJECTS }
     requires value { nat_abs value < 2 ^ 63 }
     ensures effect { WritesAll (D.told desk.old) (D.told desk.new) (text_of (order_lines order.now value)) result }
     ensures cause { HasCause (D.faults desk.old) (D.faults desk.new) result }
 {
-    write_short_line(CertWord::Version, &[1], desk, room)?;
+    write_short_line(CertWord::Version, &[2], desk, room)?;
     write_short_line(CertWord::Objects, &[i64::from(order.n())], desk, room)?;
     fill_order(order, numbers);
     write_short_line(CertWord::OrderLine, numbers, desk, room)?;

@@ -4,12 +4,14 @@
 mod body;
 mod cut;
 mod head;
-mod leaf;
 mod line;
+mod names;
+mod record;
 #[cfg(test)]
 mod tests;
 mod tree;
 mod walk;
 mod writer;
 
+pub use names::WriteRoom;
 pub use writer::write_certificate;

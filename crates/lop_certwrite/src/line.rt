@@ -1,6 +1,7 @@
 // One line, and the numbers behind its first word.
 ghost use Rattle.std.specs.Prelude.{◌≡◌, ◌+◌, ◌≤◌, ◌<◌, ◌^◌, ◌++◌, true, length, nat_abs};
 ghost use Rattle.arrayvec.specs.ArrayVec.{array_vec_len};
+ghost use Rattle.lop_model.specs.declared.weights.TheConstants.{MAX_OBJECTS};
 ghost use Rattle.lop_desk.specs.Desk.{IsMaking};
 ghost use Rattle.lop_desk.specs.Whole.{WritesAll};
 ghost use Rattle.lop_desk.specs.Causes.{HasCause};
@@ -65,7 +66,7 @@ pub fn push_objects(objects: &[u16], numbers: &mut Numbers)
 
 /// Leaves the objects of an order, from 1.
 pub fn fill_order(order: &Order, numbers: &mut Numbers)
-    requires { length order.now ≤ 512 }
+    requires { length order.now ≤ MAX_OBJECTS }
     ensures { numbers.new.items ≡ numbers_of_objects order.now }
 {
     numbers.clear();

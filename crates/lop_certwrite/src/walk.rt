@@ -11,7 +11,7 @@ pub fn next_node(core: &Core, node: u32) -> u32
     requires inside { node < length core.now.state.nodes }
     requires linked { AreLinked core.now.state.nodes }
     requires small { length core.now.state.nodes < 2 ^ 32 }
-    ensures { IsNext core.now.state.nodes core.now.book.records node result }
+    ensures { IsNext core.now.state.nodes node result }
 {
     match core.node(node).standing {
         Standing::Split(first) => first,
@@ -25,7 +25,7 @@ fn next_up(core: &Core, node: u32) -> u32
     requires inside { node < length core.now.state.nodes }
     requires linked { AreLinked core.now.state.nodes }
     requires small { length core.now.state.nodes < 2 ^ 32 }
-    ensures { IsNextUp core.now.state.nodes core.now.book.records node result }
+    ensures { IsNextUp core.now.state.nodes node result }
 {
     let mut at = node;
     while at != 0 {

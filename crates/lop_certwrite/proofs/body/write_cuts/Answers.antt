@@ -2,7 +2,7 @@ use Rattle.std.proofs.Common.{rules, ◌≡◌, ◌<◌, ◌≤◌, true, length
 use Rattle.lop_certtext.specs.Line.{CertLine, is_row}
 use Rattle.lop_certtext.specs.CutLine.{cut_line, IsShapedCut}
 use Rattle.lop_certtext.proofs.AcceptedText.{cut_written}
-use Rattle.lop_certwrite.proofs.CutLines.{cuts_cut, cuts_more, shaped_cuts, all_shaped}
+use Rattle.lop_certwrite.proofs.CutLines.{each_cut, each_more, shaped_cuts, all_shaped}
 use Rattle.lop_certwrite.proofs.body.write_cuts.Goals as goal
 
 pub write_short_line-requires-clause-row : goal.write_short_line-requires-clause-row
@@ -14,7 +14,7 @@ pub returns-in_err-write_short_line-clause-effect : goal.returns-in_err-write_sh
 returns-in_err-write_short_line-clause-effect g c =
     let inside : c.loop-index.index < length c.args.core.now.book.cuts = search rules in
     let line : record { word = c.fill_cut-word.result; numbers = c.deref.result.now } ≡ cut_line c.cut.result.now = ap (λ (ns : List ℤ). record { word = c.fill_cut-word.result; numbers = ns }) c.deref.ensures.0 ∙ c.fill_cut-word.ensures.line in
-    cuts_cut c.args.core.now.book.cuts c.loop-index.index _ inside _ _ _ _ _ _ (line ∙ ap cut_line c.cut.ensures.value) c.loop-index.invariant.written c.from_residual.ensures.1 c.in_err-write_short_line.ensures.effect
+    each_cut cut_line c.args.core.now.book.cuts c.loop-index.index _ inside _ _ _ _ _ _ (line ∙ ap cut_line c.cut.ensures.value) c.loop-index.invariant.written c.from_residual.ensures.1 c.in_err-write_short_line.ensures.effect
 
 pub loop-index-preserved : goal.loop-index-preserved
 loop-index-preserved g c =
@@ -23,7 +23,7 @@ loop-index-preserved g c =
     record {
       making = search rules;
       later = search rules;
-      written = cuts_more c.args.core.now.book.cuts c.loop-index.index _ inside _ _ _ _ (line ∙ ap cut_line c.cut.ensures.value) c.loop-index.invariant.written c.in_ok-write_short_line.ensures.effect;
+      written = each_more cut_line c.args.core.now.book.cuts c.loop-index.index _ inside _ _ _ _ (line ∙ ap cut_line c.cut.ensures.value) c.loop-index.invariant.written c.in_ok-write_short_line.ensures.effect;
       shaped = shaped_cuts c.args.core.now.book.cuts c.loop-index.index _ inside c.loop-index.invariant.shaped (subst IsShapedCut c.cut.ensures.value c.fill_cut-word.ensures.shaped);
     }
 

@@ -9,7 +9,7 @@ use Rattle.lop_certwrite.proofs.head.write_order_lines.Goals as goal
 
 pub returns-in_err-write_short_line-clause-effect : goal.returns-in_err-write_short_line-clause-effect
 returns-in_err-write_short_line-clause-effect g c =
-    let version : CertLine = record { word = Version; numbers = pos 1 ∷ [] } in
+    let version : CertLine = record { word = Version; numbers = pos 2 ∷ [] } in
     let objects : CertLine = record { word = Objects; numbers = pos (length c.args.order.now) ∷ [] } in
     let order : CertLine = record { word = OrderLine; numbers = numbers_of_objects c.args.order.now } in
     let value : CertLine = record { word = Value; numbers = c.args.value ∷ [] } in
@@ -18,7 +18,7 @@ returns-in_err-write_short_line-clause-effect g c =
 pub returns-in_err-write_short_line-2-clause-effect : goal.returns-in_err-write_short_line-2-clause-effect
 returns-in_err-write_short_line-2-clause-effect g c =
     let read : FitsSigned w64 c.from.result = search rules in
-    let version : CertLine = record { word = Version; numbers = pos 1 ∷ [] } in
+    let version : CertLine = record { word = Version; numbers = pos 2 ∷ [] } in
     let objects : CertLine = record { word = Objects; numbers = pos (length c.args.order.now) ∷ [] } in
     let order : CertLine = record { word = OrderLine; numbers = numbers_of_objects c.args.order.now } in
     let value : CertLine = record { word = Value; numbers = c.args.value ∷ [] } in
@@ -34,7 +34,7 @@ write_short_line-requires-3-clause-row g c =
 pub returns-in_err-write_short_line-3-clause-effect : goal.returns-in_err-write_short_line-3-clause-effect
 returns-in_err-write_short_line-3-clause-effect g c =
     let read : FitsSigned w64 c.from.result = search rules in
-    let version : CertLine = record { word = Version; numbers = pos 1 ∷ [] } in
+    let version : CertLine = record { word = Version; numbers = pos 2 ∷ [] } in
     let objects : CertLine = record { word = Objects; numbers = pos (length c.args.order.now) ∷ [] } in
     let order : CertLine = record { word = OrderLine; numbers = numbers_of_objects c.args.order.now } in
     let value : CertLine = record { word = Value; numbers = c.args.value ∷ [] } in
@@ -47,7 +47,7 @@ pub returns-clause-effect : goal.returns-clause-effect
 returns-clause-effect g c =
     let fits : FitsSigned w64 c.args.value = search rules in
     let read : FitsSigned w64 c.from.result = search rules in
-    let version : CertLine = record { word = Version; numbers = pos 1 ∷ [] } in
+    let version : CertLine = record { word = Version; numbers = pos 2 ∷ [] } in
     let objects : CertLine = record { word = Objects; numbers = pos (length c.args.order.now) ∷ [] } in
     let order : CertLine = record { word = OrderLine; numbers = numbers_of_objects c.args.order.now } in
     let value : CertLine = record { word = Value; numbers = c.args.value ∷ [] } in

@@ -9,7 +9,7 @@ overflow_add-result c = let inside = c.loop-at.invariant.inside in omega (arith,
 pub returns-then-is_first : goal.returns-then-is_first
 returns-then-is_first c =
     let ne : c.loop-at.at ≢ 0 = search rules in
-    goes_first c.args.core.now.state.nodes c.loop-at.at c.node-parent.result.parent ne (ap (λ (v : NodeView). v.parent) c.node-parent.ensures.value) c.args.core.now.book.records c.args.node
+    goes_first c.args.core.now.state.nodes c.loop-at.at c.node-parent.result.parent ne (ap (λ (v : NodeView). v.parent) c.node-parent.ensures.value) c.args.node
     (sym c.is_first.ensures ∙ c.if-is_first.true) c.loop-at.invariant.same
 
 pub loop-at-smaller : goal.loop-at-smaller

@@ -3,7 +3,7 @@ use Rattle.std.specs.Prelude.{◌+ℤ◌}
 use Rattle.std.proofs.lemmas.Int.{to_z-of_z, to_z_pos}
 use Rattle.lop_core.specs.Records.{record_at}
 use Rattle.lop_certwrite.proofs.LeafLemmas.{term_more}
-use Rattle.lop_certwrite.proofs.leaf.fill_leaf.Goals as goal
+use Rattle.lop_certwrite.proofs.record.fill_record.Goals as goal
 
 pub loop-index-preserved : goal.loop-index-preserved
 loop-index-preserved c =

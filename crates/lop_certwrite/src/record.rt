@@ -1,17 +1,18 @@
-// The line of a leaf.
+// The line of a record.
 ghost use Rattle.std.specs.Prelude.{◌≡◌, ◌≤◌, ◌<◌, length};
 ghost use Rattle.lop_core.specs.Records.{IsNodeRecord, record_at};
-ghost use Rattle.lop_certtext.specs.LeafLine.{leaf_line};
-ghost use Rattle.lop_certwrite.specs.CoreTree.{leaf_of_record};
+ghost use Rattle.lop_certtext.specs.RecordLine.{record_numbers};
+ghost use Rattle.lop_certwrite.specs.CoreTree.{cert_record_of};
 
 use crate::line::Numbers;
 use lop_core::Core;
 
-/// Leaves the numbers of a leaf's line: its scale, how many terms it has, and the terms, whose cuts count from 1.
-pub fn fill_leaf(core: &Core, node: u32, numbers: &mut Numbers)
+/// Leaves the numbers of the line of a node's record: its scale, how many terms it has, and the terms, whose cuts
+/// count from 1.
+pub fn fill_record(core: &Core, node: u32, numbers: &mut Numbers)
     requires { node < length core.now.state.nodes }
     ensures terms { IsNodeRecord (length core.now.book.cuts) (record_at core.now.book.records node) }
-    ensures numbers { numbers.new.items ≡ (leaf_line (leaf_of_record (record_at core.now.book.records node))).numbers }
+    ensures numbers { numbers.new.items ≡ record_numbers (cert_record_of (record_at core.now.book.records node)) }
 {
     let view = core.node(node);
     numbers.clear();

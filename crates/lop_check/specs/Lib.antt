@@ -4,4 +4,5 @@ pub mod Trail
 pub mod TreePlace
 pub mod Cycles
 pub mod Charges
+pub mod Records
 pub mod Nodes

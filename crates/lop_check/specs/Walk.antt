@@ -6,8 +6,8 @@ use Rattle.lop_desk.specs.Desk.{IsOpen}
 use Rattle.lop_desk.specs.Whole.{OnlyOpens}
 use Rattle.lop_desk.specs.LineState.{LineState, to_come}
 use Rattle.lop_certtext.specs.declared.word.CertWord.{CertWord}
-use Rattle.lop_certtext.specs.declared.word.CertWord.TheVariants.{Version, Objects, OrderLine, Value, Bound, Cuts, Dicycle, Fence, Ladder, SplitLine, Leaf, End}
-use Rattle.lop_certtext.specs.Answer.{TextLine, CheckAnswer, lines_from, is_version, is_objects, is_order_line, is_value, is_bound, is_cuts, is_end}
+use Rattle.lop_certtext.specs.declared.word.CertWord.TheVariants.{Version, Objects, OrderLine, Value, Bound, Cuts, Dicycle, Fence, Ladder, RecordsLine, RecordLine, SplitLine, Leaf, End}
+use Rattle.lop_certtext.specs.Answer.{TextLine, CheckAnswer, lines_from, is_version, is_objects, is_order_line, is_value, is_bound, is_cuts, is_records_line, is_record_line, is_end}
 use Rattle.lop_certtext.specs.Line.{is_row}
 use Rattle.lop_check.specs.declared.reading.Reading.{Reading}
 use Rattle.lop_check.specs.declared.verdict.Verdict.{Verdict}
@@ -73,6 +73,8 @@ is_due OrderLine word = is_order_line word
 is_due Value word = is_value word
 is_due Bound word = is_bound word
 is_due Cuts word = is_cuts word
+is_due RecordsLine word = is_records_line word
+is_due RecordLine word = is_record_line word
 is_due Leaf Leaf = true
 is_due End word = is_end word
 is_due Dicycle Dicycle = true

@@ -2,11 +2,12 @@
 ghost use Rattle.std.specs.Prelude.{◌≡◌, ◌≤◌, ◌<◌, ◌+◌, ◌-◌, ◌*◌, ◌^◌, ℕ, [], true, length, slice_index_or, pos, nat_abs, All};
 ghost use Rattle.lop_cuts.specs.Kind.{FitsCut, IsArcBelow, arcs_of, right_side_of};
 ghost use Rattle.lop_cuts.specs.Lagrangian.{right_sides};
-ghost use Rattle.lop_certtext.specs.LeafLine.{are_rising, terms_of, terms_in};
+ghost use Rattle.lop_certtext.specs.RecordLine.{are_rising, terms_of, terms_in};
 ghost use Rattle.lop_model.specs.Cells.{cell};
 ghost use Rattle.lop_cuts.specs.Charges.{HasCharges};
 ghost use Rattle.lop_check.specs.Charges.{AddsCharges, AreSmall, IsTable};
-ghost use Rattle.lop_check.specs.Nodes.{AreRightCuts, AreTerms};
+ghost use Rattle.lop_check.specs.Nodes.{AreRightCuts};
+ghost use Rattle.lop_check.specs.Records.{AreTerms};
 
 use lop_cuts::Cut;
 use lop_model::Pair;

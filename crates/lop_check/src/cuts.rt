@@ -1,9 +1,9 @@
 // The lines of the cuts.
-ghost use Rattle.std.specs.Prelude.{◌≡◌, ◌+◌, [], ◌∷◌, ℕ, List, IfOk, IfErr, OnOk};
+ghost use Rattle.std.specs.Prelude.{◌≡◌, ◌+◌, [], ℕ, List, IfOk, IfErr, OnOk};
 ghost use Rattle.lop_cuts.specs.declared.kind.CutKind.{CutKind};
 ghost use Rattle.lop_cuts.specs.Kind.{IsCut, FitsCut};
 ghost use Rattle.lop_model.specs.Closing.{closed};
-ghost use Rattle.lop_certtext.specs.Answer.{TextLine, CheckAnswer, cuts_step, tree_step, spelled, cut_step, is_cut_word, rejected};
+ghost use Rattle.lop_certtext.specs.Answer.{TextLine, CheckAnswer, cuts_step, records_step, spelled, cut_step, is_cut_word, rejected};
 ghost use Rattle.lop_check.specs.Walk.{EndsCheck, HandsOver, IsReading, ReadsOn, spot};
 ghost use Rattle.lop_check.specs.Nodes.{AreRightCuts, IsCutOf};
 
@@ -26,7 +26,7 @@ pub fn cut_lines<D: Desk>(
 ) -> Result<(), Verdict>
     requires reading { IsReading (spot (D.told desk.old) (D.faults desk.old) reading.old) }
     requires none { cuts.old.items ≡ [] }
-    ensures reads { HandsOver (spot (D.told desk.old) (D.faults desk.old) reading.old) (spot (D.told desk.new) (D.faults desk.new) reading.new) (cuts_step closed weights.now claim.value claim.bound (reading.old.number + 1)) (λ _. tree_step closed weights.now cuts.new.items claim.value claim.bound ([] ∷ []) (reading.new.number + 1)) result }
+    ensures reads { HandsOver (spot (D.told desk.old) (D.faults desk.old) reading.old) (spot (D.told desk.new) (D.faults desk.new) reading.new) (cuts_step closed weights.now claim.version claim.value claim.bound (reading.old.number + 1)) (λ _. records_step closed weights.now claim.version cuts.new.items claim.value claim.bound (reading.new.number + 1)) result }
     ensures right { AreRightCuts weights.now.size cuts.new.items }
 {
     reading.expect(desk, CertWord::Cuts)?;

@@ -1,24 +1,28 @@
 // A line of the tree: a split goes down, and a leaf goes on to the next subtree.
 ghost use Rattle.std.specs.Prelude.{◌≡◌, ◌≤◌, pos, ◌+ℤ◌, ◌*ℤ◌, length, IfOk, MatchOption, Some, None};
+ghost use Rattle.lop_certtext.specs.RecordLine.{record_of, named_of, leaf_of};
 ghost use Rattle.lop_certtext.specs.declared.word.CertWord.TheVariants as words;
 ghost use Rattle.lop_certtext.specs.Answer.{split_of};
-ghost use Rattle.lop_check.specs.Nodes.{IsFresh, IsRoomOf, IsProof, AreTerms, TakesLine, node_test, split_test, shown_test};
+ghost use Rattle.lop_check.specs.Nodes.{IsFresh, IsRoomOf, IsProof, Shows, TakesLine, node_test, split_test};
 
 use crate::Reason;
 use crate::cut::{is_object, object_of};
-use crate::leaf::is_leaf_row;
+use crate::header::Claim;
 use crate::path::{Walk, may_split};
+use crate::record::record_of;
+use crate::record_list::RecordList;
 use crate::trail::Trail;
 use crate::upper::upper;
-use lop_certtext::CertWord;
+use lop_certtext::{CertVersion, CertWord};
 use lop_cuts::Cut;
 use lop_model::{Pair, Weights};
 use std::alloc::{AllocError, Global};
 
-// What a check keeps but for the line: the cuts, the walk down the tree, and a table for charges.
+// What a check keeps but for the line: the cuts, the records, the walk down the tree, and a table for charges.
 #[derive(Drop)]
 pub struct Proof {
     pub cuts: Vec<Cut>,
+    pub records: RecordList,
     pub walk: Walk,
     pub charges: Vec<u128>,
 }
@@ -31,6 +35,7 @@ impl Proof {
         let size = n as usize;
         Ok(Proof {
             cuts: Vec::new(alloc),
+            records: RecordList::new(alloc),
             walk: Walk::new(alloc, n)?,
             charges: vec![in alloc; 0; size * size]?,
         })
@@ -42,6 +47,7 @@ impl Proof {
         ensures { IsFresh n self.new }
     {
         self.cuts.clear();
+        self.records.clear();
         self.walk.restart();
     }
 }
@@ -50,16 +56,16 @@ impl Proof {
 pub fn node_step(
     weights: &Weights,
     proof: &mut Proof,
-    bound: i64,
+    claim: Claim,
     word: CertWord,
     numbers: &[i64],
 ) -> Result<bool, Reason>
     requires { IsProof weights.now.size proof.old }
-    ensures { TakesLine weights.now.size proof.old proof.new (node_test weights.now proof.old bound word numbers.now) result }
+    ensures { TakesLine weights.now.size proof.old proof.new (node_test weights.now proof.old claim.version claim.bound word numbers.now) result }
 {
     match word {
         CertWord::SplitLine => split_step(weights.n(), proof, numbers),
-        CertWord::Leaf => leaf_step(weights, proof, bound, numbers),
+        CertWord::Leaf => leaf_step(weights, proof, claim, numbers),
         _ => Err(Reason::Spelling),
     }
 }
@@ -102,40 +108,82 @@ fn split_step(n: u16, proof: &mut Proof, numbers: &[i64]) -> Result<bool, Reason
     }
 }
 
-// A leaf: its scale and terms show the bound under the path.
+// What the record of a leaf gives under the path: its scale, and the number U.
+#[derive(Clone, Copy)]
+struct Shown {
+    scale: u32,
+    upper: i128,
+}
+
+// A leaf: its record shows the bound under the path.
 fn leaf_step(
     weights: &Weights,
     proof: &mut Proof,
-    bound: i64,
+    claim: Claim,
     numbers: &[i64],
 ) -> Result<bool, Reason>
     requires { IsProof weights.now.size proof.old }
-    ensures { TakesLine weights.now.size proof.old proof.new (node_test weights.now proof.old bound words.Leaf numbers.now) result }
+    ensures { TakesLine weights.now.size proof.old proof.new (node_test weights.now proof.old claim.version claim.bound words.Leaf numbers.now) result }
 {
-    match numbers {
-        [scale, told, terms @ ..] => {
-            if !is_leaf_row(proof.cuts.len(), *scale, *told, terms) {
-                return Err(Reason::Leaf);
+    match shown(weights, proof, claim.version, numbers) {
+        Some(shown) => {
+            let upper = shown.upper;
+            let limit = limit_of(shown.scale, claim.bound);
+            if upper < limit {
+                Ok(proof.walk.leave())
+            } else {
+                Err(Reason::High { upper, limit })
             }
-            let scale = scale.unsigned_abs() as u32;
-            shown_step(weights, proof, bound, scale, terms)
         }
-        _ => Err(Reason::Leaf),
+        None => Err(Reason::Leaf),
     }
 }
 
-// The number U of right terms is below what the bound allows.
-fn shown_step(
+// What the leaf's record gives: in version 1 the line has it, in version 2 the line has its number.
+fn shown(
     weights: &Weights,
     proof: &mut Proof,
-    bound: i64,
-    scale: u32,
-    terms: &[i64],
-) -> Result<bool, Reason>
-    requires kept { IsProof weights.now.size proof.old }
-    requires row { (scale ≤ 65536) × AreTerms (length proof.old.cuts.items) terms.now }
-    ensures { TakesLine weights.now.size proof.old proof.new (shown_test weights.now proof.old bound scale terms.now) result }
+    version: CertVersion,
+    numbers: &[i64],
+) -> Option<Shown>
+    requires { IsProof weights.now.size proof.old }
+    ensures { Shows weights.now proof.old proof.new (leaf_of version (length proof.old.cuts.items) proof.old.records numbers.now) result }
 {
+    match version {
+        CertVersion::One => shown_by_line(weights, proof, numbers),
+        CertVersion::Two => shown_by_number(weights, proof, numbers),
+    }
+}
+
+// What the record with this number gives.
+fn shown_by_number(weights: &Weights, proof: &mut Proof, numbers: &[i64]) -> Option<Shown>
+    requires { IsProof weights.now.size proof.old }
+    ensures { Shows weights.now proof.old proof.new (named_of proof.old.records numbers.now) result }
+{
+    match numbers {
+        [number] => {
+            let place = proof.records.place_of(*number)?;
+            let scale = proof.records.scale(place);
+            let upper = upper(
+                weights,
+                proof.cuts.as_slice(),
+                &proof.walk.trail,
+                &mut proof.charges,
+                scale,
+                proof.records.terms(place),
+            );
+            Some(Shown { scale, upper })
+        }
+        _ => None,
+    }
+}
+
+// What the record that the line spells gives.
+fn shown_by_line(weights: &Weights, proof: &mut Proof, numbers: &[i64]) -> Option<Shown>
+    requires { IsProof weights.now.size proof.old }
+    ensures { Shows weights.now proof.old proof.new (record_of (length proof.old.cuts.items) numbers.now) result }
+{
+    let (scale, terms) = record_of(proof.cuts.len(), numbers)?;
     let upper = upper(
         weights,
         proof.cuts.as_slice(),
@@ -144,12 +192,7 @@ fn shown_step(
         scale,
         terms,
     );
-    let limit = limit_of(scale, bound);
-    if upper < limit {
-        Ok(proof.walk.leave())
-    } else {
-        Err(Reason::High { upper, limit })
-    }
+    Some(Shown { scale, upper })
 }
 
 // What the number U has to be below: the scale times the bound and one.

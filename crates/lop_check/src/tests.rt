@@ -69,7 +69,8 @@ fn the_first_line_that_fails(rt: HostRuntime) -> Result<(), Fail> {
     let high = Reason::High { upper: 6, limit: 6 };
     let cases = [
         ("", rejected(1, Reason::Short)),
-        ("lopcert 2\n", rejected(1, Reason::Spelling)),
+        ("lopcert 3\n", rejected(1, Reason::Spelling)),
+        ("lopcert 2\n", rejected(2, Reason::Short)),
         ("lopcert 1\nobjects 4\n", rejected(2, Reason::Size)),
         (
             "lopcert 1\nobjects 3\norder 1 1 3\n",
@@ -82,6 +83,14 @@ fn the_first_line_that_fails(rt: HostRuntime) -> Result<(), Fail> {
         (
             "lopcert 1\nobjects 3\norder 1 2 3\nvalue 5\n",
             rejected(4, stated),
+        ),
+        (
+            "lopcert 1\nobjects 3\norder 1 2 3\nvalue 4\nbound 6\ncuts 0\nrecords 1\n",
+            rejected(7, Reason::Spelling),
+        ),
+        (
+            "lopcert 1\nobjects 3\norder 1 2 3\nvalue 4\nbound 6\ncuts 0\nrecord 1 0\n",
+            rejected(7, Reason::Spelling),
         ),
         (
             "lopcert 1\nobjects 3\norder 1 2 3\nvalue 4\nbound 5\ncuts 0\nleaf 1 0\nend\n",
@@ -167,6 +176,98 @@ fn trees_of_three_and_four_leaves(rt: HostRuntime) -> Result<(), Fail> {
     ];
     let front =
         "lopcert 1\nobjects 3\norder 1 2 3\nvalue 4\nbound 4\ncuts 0\nsplit 1 2\nsplit 2 3\nleaf 1 0\nleaf 1 0\n";
+    assert_eq!(rt; first_other(rt.alloc(), 3, &TIE, front, &cases)?, None);
+    Ok(())
+}
+
+// Records stand before the tree, and each leaf names one.
+#[test]
+fn leaves_that_name_records(rt: HostRuntime) -> Result<(), Fail> {
+    let accepted = Verdict::Accepted { value: 4, bound: 4 };
+    let high = Reason::High { upper: 5, limit: 5 };
+    let cases = [
+        ("records 1\nrecord 1 1 1 2\nleaf 1\nend\n", accepted),
+        (
+            "records 2\nrecord 1 1 1 2\nrecord 1 0\nleaf 1\nend\n",
+            accepted,
+        ),
+        (
+            "records 2\nrecord 1 1 1 1\nrecord 1 1 1 2\nleaf 2\nend\n",
+            accepted,
+        ),
+        (
+            "records 2\nrecord 1 1 1 1\nrecord 1 1 1 2\nleaf 1\nend\n",
+            rejected(11, high),
+        ),
+        (
+            "records 1\nrecord 1 1 1 2\nleaf 0\nend\n",
+            rejected(10, Reason::Leaf),
+        ),
+        (
+            "records 1\nrecord 1 1 1 2\nleaf 2\nend\n",
+            rejected(10, Reason::Leaf),
+        ),
+        (
+            "records 1\nrecord 1 1 1 2\nleaf 1 1\nend\n",
+            rejected(10, Reason::Leaf),
+        ),
+        (
+            "records 1\nrecord 1 1 1 2\nleaf 1\nend\nleaf 1\n",
+            rejected(12, Reason::Tail),
+        ),
+        ("records 0\nleaf 1\nend\n", rejected(9, Reason::Leaf)),
+        ("records 1048577\n", rejected(8, Reason::Spelling)),
+        ("leaf 1\nend\n", rejected(8, Reason::Spelling)),
+        (
+            "records 2\nrecord 1 1 1 2\nleaf 1\nend\n",
+            rejected(10, Reason::Spelling),
+        ),
+        (
+            "records 1\nrecord 1 1 1 2\nrecord 1 1 1 2\nleaf 1\nend\n",
+            rejected(10, Reason::Spelling),
+        ),
+        (
+            "records 2\nrecord 1 1 1 2\nrecord 1 1 2 2\nleaf 1\nend\n",
+            rejected(10, Reason::RecordLine),
+        ),
+        (
+            "records 1\nrecord 1 1 1 0\nleaf 1\nend\n",
+            rejected(9, Reason::RecordLine),
+        ),
+        (
+            "records 1\nrecord 1 2 1 2\nleaf 1\nend\n",
+            rejected(9, Reason::RecordLine),
+        ),
+        (
+            "records 1\nrecord 65537 0\nleaf 1\nend\n",
+            rejected(9, Reason::RecordLine),
+        ),
+    ];
+    let front = "lopcert 2\nobjects 3\norder 1 2 3\nvalue 4\nbound 4\ncuts 1\ndicycle 1 2 3\n";
+    assert_eq!(rt; first_other(rt.alloc(), 3, &TIE, front, &cases)?, None);
+    Ok(())
+}
+
+// One record, which shows the bound under one path and not under another.
+#[test]
+fn leaves_that_share_a_record(rt: HostRuntime) -> Result<(), Fail> {
+    let high = Reason::High { upper: 6, limit: 5 };
+    let cases = [
+        (
+            "record 1 0\nsplit 1 2\nsplit 2 3\nleaf 1\nleaf 1\nleaf 1\nend\n",
+            Verdict::Accepted { value: 4, bound: 4 },
+        ),
+        (
+            "record 1 0\nsplit 1 2\nsplit 2 3\nleaf 2\nleaf 1\nleaf 1\nend\n",
+            rejected(11, Reason::Leaf),
+        ),
+        (
+            "record 1 0\nsplit 2 1\nleaf 1\nleaf 1\nend\n",
+            rejected(11, high),
+        ),
+        ("record 0 0\n", rejected(8, Reason::RecordLine)),
+    ];
+    let front = "lopcert 2\nobjects 3\norder 1 2 3\nvalue 4\nbound 4\ncuts 0\nrecords 1\n";
     assert_eq!(rt; first_other(rt.alloc(), 3, &TIE, front, &cases)?, None);
     Ok(())
 }

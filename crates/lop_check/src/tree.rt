@@ -1,7 +1,8 @@
 // The lines of the tree, and the end.
-ghost use Rattle.std.specs.Prelude.{◌≡◌, ◌+◌, [], ◌∷◌, OnOk};
+ghost use Rattle.std.specs.Prelude.{◌≡◌, ◌+◌, [], ◌∷◌, length, OnOk};
 ghost use Rattle.lop_model.specs.Closing.{closed};
 ghost use Rattle.lop_certtext.specs.Answer.{accepted, end_step, tree_step};
+ghost use Rattle.lop_certtext.specs.RecordLine.{leaf_of};
 ghost use Rattle.lop_check.specs.Walk.{HandsOver, IsReading, spot};
 ghost use Rattle.lop_check.specs.TreePlace.{pending, pending_if, place};
 ghost use Rattle.lop_check.specs.Nodes.{IsProof};
@@ -25,7 +26,7 @@ pub fn tree<D: Desk>(
     requires reading { IsReading (spot (D.told desk.old) (D.faults desk.old) reading.old) }
     requires kept { IsProof weights.now.size proof.old }
     requires root { proof.old.walk.steps.items ≡ [] }
-    ensures reads { HandsOver (spot (D.told desk.old) (D.faults desk.old) reading.old) (spot (D.told desk.new) (D.faults desk.new) reading.new) (tree_step closed weights.now proof.old.cuts.items claim.value claim.bound ([] ∷ []) (reading.old.number + 1)) (λ _. end_step claim.value claim.bound (reading.new.number + 1)) result }
+    ensures reads { HandsOver (spot (D.told desk.old) (D.faults desk.old) reading.old) (spot (D.told desk.new) (D.faults desk.new) reading.new) (tree_step closed weights.now proof.old.cuts.items (leaf_of claim.version (length proof.old.cuts.items) proof.old.records) claim.value claim.bound ([] ∷ []) (reading.old.number + 1)) (λ _. end_step claim.value claim.bound (reading.new.number + 1)) result }
     ensures kept { IsProof weights.now.size proof.new }
 {
     'lines: loop {
@@ -45,12 +46,12 @@ fn tree_line<D: Desk>(
 ) -> Result<bool, Verdict>
     requires reading { IsReading (spot (D.told desk.old) (D.faults desk.old) reading.old) }
     requires kept { IsProof weights.now.size proof.old }
-    ensures reads { HandsOver (spot (D.told desk.old) (D.faults desk.old) reading.old) (spot (D.told desk.new) (D.faults desk.new) reading.new) (tree_step closed weights.now proof.old.cuts.items claim.value claim.bound (pending (place proof.old.walk)) (reading.old.number + 1)) (λ more. tree_step closed weights.now proof.new.cuts.items claim.value claim.bound (pending_if more (place proof.new.walk)) (reading.new.number + 1)) result }
+    ensures reads { HandsOver (spot (D.told desk.old) (D.faults desk.old) reading.old) (spot (D.told desk.new) (D.faults desk.new) reading.new) (tree_step closed weights.now proof.old.cuts.items (leaf_of claim.version (length proof.old.cuts.items) proof.old.records) claim.value claim.bound (pending (place proof.old.walk)) (reading.old.number + 1)) (λ more. tree_step closed weights.now proof.new.cuts.items (leaf_of claim.version (length proof.new.cuts.items) proof.new.records) claim.value claim.bound (pending_if more (place proof.new.walk)) (reading.new.number + 1)) result }
     ensures kept { IsProof weights.now.size proof.new }
     ensures number { OnOk result (reading.new.number ≡ reading.old.number + 1) }
 {
     let word = reading.line(desk)?;
-    match node_step(weights, proof, claim.bound, word, reading.numbers()) {
+    match node_step(weights, proof, claim, word, reading.numbers()) {
         Ok(more) => Ok(more),
         Err(reason) => Err(reading.rejected(reason)),
     }

@@ -2,9 +2,10 @@
 ghost use Rattle.std.specs.Prelude.{◌≡◌, ◌≤◌, ◌<◌, ◌*◌, ◌^◌, length, pos, neg_ℤ, ◌≤ℤ◌};
 ghost use Rattle.lop_model.specs.Sums.{pair_sum};
 ghost use Rattle.lop_cuts.specs.Lagrangian.{lagrangian_value};
-ghost use Rattle.lop_certtext.specs.LeafLine.{terms_of, terms_in};
+ghost use Rattle.lop_certtext.specs.RecordLine.{terms_of, terms_in};
 ghost use Rattle.lop_check.specs.Charges.{AreSmall, table_entry};
-ghost use Rattle.lop_check.specs.Nodes.{AreRightCuts, AreTerms};
+ghost use Rattle.lop_check.specs.Nodes.{AreRightCuts};
+ghost use Rattle.lop_check.specs.Records.{AreTerms};
 ghost use Rattle.lop_model.specs.Bound.{pair_value};
 
 use crate::charge::{charge_terms, clear_charges};

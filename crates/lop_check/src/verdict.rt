@@ -15,6 +15,6 @@ pub enum Verdict {
     Failed,
     /// A byte behind the first 2^40 of the file was met before the verdict.
     TooLong,
-    /// Want of memory for the list of cuts; all else is there with the room.
+    /// Want of memory for the lists of cuts and of records; all else is there with the room.
     Memory,
 }

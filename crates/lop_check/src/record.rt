@@ -1,23 +1,36 @@
-// The tests of a leaf's line.
-ghost use Rattle.std.specs.Prelude.{◌≡◌, ◌≤◌, ◌<◌, ◌+◌, ◌*◌, ℕ, length, nat_abs};
-ghost use Rattle.lop_certtext.specs.LeafLine.{are_rising, terms_of, is_leaf_row};
-ghost use Rattle.lop_check.specs.Nodes.{follows};
+// The record that the numbers of a line spell.
+ghost use Rattle.std.specs.Prelude.{◌≡◌, ◌≤◌, ◌<◌, ◌+◌, ◌*◌, ℕ, length, nat_abs, None, MatchOption};
+ghost use Rattle.lop_certtext.specs.RecordLine.{are_rising, terms_of, is_record_row, record_of};
+ghost use Rattle.lop_check.specs.Records.{IsRow, follows};
 
-// The greatest scale, and the greatest number of terms.
-const GREATEST_SCALE: i64 = 65_536;
+use lop_certtext::{MAX_SCALE, MAX_TERMS};
 
-const MOST_TERMS: u64 = 4_096;
+// The scale and the numbers of the terms, where they are a record over so many cuts. O(terms).
+pub fn record_of(count: usize, numbers: &[i64]) -> Option<(u32, &[i64])>
+    ensures { MatchOption result (record_of count numbers.now ≡ None) (λ r. IsRow count numbers.now r.0 r.1.now) }
+{
+    match numbers {
+        [scale, told, terms @ ..] => {
+            if is_record_row(count, *scale, *told, terms) {
+                Some((scale.unsigned_abs() as u32, terms))
+            } else {
+                None
+            }
+        }
+        _ => None,
+    }
+}
 
 // Whether this is a right scale, and the numbers are as many terms as are told, by rising numbers of the cuts from
 // 1 to `count`. O(terms).
-pub fn is_leaf_row(count: usize, scale: i64, told: i64, numbers: &[i64]) -> bool
-    ensures { result ≡ is_leaf_row count (nat_abs scale) (nat_abs told) numbers.now }
+fn is_record_row(count: usize, scale: i64, told: i64, numbers: &[i64]) -> bool
+    ensures { result ≡ is_record_row count (nat_abs scale) (nat_abs told) numbers.now }
 {
     let scale = scale.unsigned_abs();
     let told = told.unsigned_abs();
     1 <= scale
-        && scale <= GREATEST_SCALE.unsigned_abs()
-        && told <= MOST_TERMS
+        && scale <= u64::from(MAX_SCALE)
+        && told <= u64::from(MAX_TERMS)
         && numbers.len() as u64 == 2 * told
         && are_rising(count, numbers)
 }

@@ -271,8 +271,9 @@ class TooLong(Exception):
 
 
 MOST = 2**63 - 1
-ROWS = {b"lopcert", b"objects", b"order", b"value", b"bound", b"cuts", b"dicycle", b"fence", b"ladder", b"split", b"leaf", b"end"}
-ONE = {b"lopcert", b"objects", b"value", b"bound", b"cuts"}
+MOST_TERMS = 67_112_960
+ROWS = {b"lopcert", b"objects", b"order", b"value", b"bound", b"cuts", b"dicycle", b"fence", b"ladder", b"records", b"record", b"split", b"leaf", b"end"}
+ONE = {b"lopcert", b"objects", b"value", b"bound", b"cuts", b"records"}
 
 
 def spelled(line):
@@ -298,8 +299,8 @@ def spelled(line):
     else:
         right = len(numbers) >= 1
     if word == b"lopcert":
-        right = numbers == [1]
-    if word == b"cuts":
+        right = numbers in ([1], [2])
+    if word in (b"cuts", b"records"):
         right = right and numbers[0] <= 1_048_576
     return (word, numbers) if right else None
 
@@ -360,6 +361,28 @@ def cut_of(word, numbers, n):
     return arcs, len(arcs) - (k + 1) // 2
 
 
+def record_of(numbers, cuts):
+    """The scale and the terms that a record's numbers spell, each term a cut with its multiplier, or None."""
+    if len(numbers) < 2 or len(numbers) != 2 + 2 * numbers[1] or not 1 <= numbers[0] <= 65_536 or numbers[1] > 4_096:
+        return None
+    named, multipliers = numbers[2::2], numbers[3::2]
+    if any(b <= a for a, b in zip([0] + named, named)) or any(it > len(cuts) for it in named) or 0 in multipliers:
+        return None
+    return numbers[0], [(cuts[it - 1], m) for it, m in zip(named, multipliers)]
+
+
+def read_records(lines, cuts):
+    """The records of a text of version 2."""
+    records, terms = [], 0
+    for _ in range(lines.next(b"records")[1][0]):
+        found = record_of(lines.next(b"record")[1], cuts)
+        if found is None or terms + len(found[1]) > MOST_TERMS:
+            lines.reject("record")
+        records.append(found)
+        terms += len(found[1])
+    return records
+
+
 def reaches(path, a, b):
     """Whether a chain of the path's pairs leads from a to b."""
     seen, left = set(), [a]
@@ -395,7 +418,7 @@ def upper(rows, path, scale, terms):
 def check(rows, data):
     """Value, bound and the number of nodes of a certificate that is accepted; else Rejected."""
     n, lines = len(rows), Lines(data)
-    lines.next(b"lopcert")
+    version = lines.next(b"lopcert")[1][0]
     if lines.next(b"objects")[1][0] != n:
         lines.reject("size")
     order = [it - 1 for it in lines.next(b"order")[1]]
@@ -413,6 +436,7 @@ def check(rows, data):
         if cut is None:
             lines.reject("cut")
         cuts.append(cut)
+    records = read_records(lines, cuts) if version == 2 else None
     pending, nodes = [[]], 0
     while pending:
         path, nodes = pending.pop(), nodes + 1
@@ -425,12 +449,14 @@ def check(rows, data):
                 lines.reject("split")
             pending += [path + [(b, a)], path + [(a, b)]]
             continue
-        if len(numbers) < 2 or len(numbers) != 2 + 2 * numbers[1] or not 1 <= numbers[0] <= 65_536 or numbers[1] > 4_096:
+        if version == 1:
+            found = record_of(numbers, cuts)
+        else:
+            found = records[numbers[0] - 1] if len(numbers) == 1 and 1 <= numbers[0] <= len(records) else None
+        if found is None:
             lines.reject("leaf")
-        scale, named, multipliers = numbers[0], numbers[2::2], numbers[3::2]
-        if any(b <= a for a, b in zip([0] + named, named)) or any(it > len(cuts) for it in named) or 0 in multipliers:
-            lines.reject("leaf")
-        u = upper(rows, path, scale, [(cuts[it - 1], m) for it, m in zip(named, multipliers)])
+        scale, terms = found
+        u = upper(rows, path, scale, terms)
         if u >= scale * (bound + 1):
             lines.reject(f"high {u} {scale * (bound + 1)}")
     lines.next(b"end")

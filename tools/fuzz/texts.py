@@ -77,7 +77,7 @@ def order(draw, n):
 
 
 def certificate(draw, rows, solved):
-    """A certificate by hand, with cuts of all kinds; `solved` is an order with its value and a bound."""
+    """A certificate of version 1 by hand, with cuts of all kinds; `solved` is an order with its value and a bound."""
     n, (s, value, bound) = len(rows), solved
     cuts = []
     for _ in range(draw.randrange(4)):
@@ -105,6 +105,27 @@ def certificate(draw, rows, solved):
         return [b"leaf %d %d" % (scale, len(named)) + terms]
 
     return b"\n".join(lines + tree(draw.randrange(4), []) + [b"end"]) + b"\n"
+
+
+def other_version(draw, certificate):
+    """The same certificate in the other version: its leaves' records listed, at random each anew or once, or put back."""
+    lines = certificate[:-1].split(b"\n")
+    front = next(place for place, line in enumerate(lines) if line.startswith(b"cuts ")) + 1
+    front += int(lines[front - 1][5:])
+    if lines[0] == b"lopcert 2":
+        count = int(lines[front][8:])
+        records = [line[7:] for line in lines[front + 1 : front + 1 + count]]
+        tree = [b"leaf " + records[int(line[5:]) - 1] if line.startswith(b"leaf ") else line for line in lines[front + 1 + count :]]
+        return b"\n".join([b"lopcert 1"] + lines[1:front] + tree) + b"\n"
+    records, tree, again = [b"1 0"] * draw.choice([0, 0, 1]), [], draw.random() < 0.3
+    for line in lines[front:]:
+        if line.startswith(b"leaf "):
+            if again or line[5:] not in records:
+                records.append(line[5:])
+            line = b"leaf %d" % (len(records) if again else records.index(line[5:]) + 1)
+        tree.append(line)
+    listed = [b"records %d" % len(records)] + [b"record " + it for it in records]
+    return b"\n".join([b"lopcert 2"] + lines[1:front] + listed + tree) + b"\n"
 
 
 def changed(draw, data):

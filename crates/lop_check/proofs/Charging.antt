@@ -13,7 +13,7 @@ use Rattle.lop_cuts.specs.Lagrangian.{Term, charge, right_sides}
 use Rattle.lop_cuts.proofs.ArcLemmas.{times, times-distinct, has_arc}
 use Rattle.lop_cuts.proofs.CycleLemmas.{one_if}
 use Rattle.lop_cuts.proofs.LagrangianLemmas.{charge_more}
-use Rattle.lop_certtext.specs.LeafLine.{CutTerm, are_rising, terms_of, cut_at, terms_in}
+use Rattle.lop_certtext.specs.RecordLine.{CutTerm, are_rising, terms_of, cut_at, terms_in}
 use Rattle.lop_certtext.proofs.TreeBounds.{IsNumbered, numbered-rising}
 use Rattle.lop_model.specs.Cells.{cell}
 use Rattle.lop_cuts.specs.Charges.{arc_count, HasCharges}

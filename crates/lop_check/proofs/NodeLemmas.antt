@@ -3,8 +3,8 @@ use Rattle.std.proofs.Common.{◌≡◌, ℕ, suc, ◌+◌, ◌*◌, ◌<◌, �
 use Rattle.std.specs.Prelude.{int_lt, nat_lt, nat_le}
 use Rattle.std.proofs.lemmas.Int.{ints}
 use Rattle.std.proofs.lemmas.List.{drop_all}
-use Rattle.lop_certtext.specs.LeafLine.{LeafTerms, are_rising, terms_of, is_leaf_row, leaf_of}
-use Rattle.lop_check.specs.Nodes.{follows}
+use Rattle.lop_certtext.specs.RecordLine.{CertRecord, are_rising, terms_of, is_record_row, record_of}
+use Rattle.lop_check.specs.Records.{follows}
 
 -- ---- terms in turn
 
@@ -31,17 +31,17 @@ two_front [] h = absurd (omega arith)
 two_front (a ∷ []) h = absurd (omega arith)
 two_front (a ∷ b ∷ xs) h = refl
 
-pub leaf_read : (count : ℕ) (xs : List ℤ) → 2 ≤ length xs → is_leaf_row count (nat_abs (get_or xs 0 (pos 0))) (nat_abs (get_or xs 1 (pos 0))) (drop 2 xs) ≡ true → leaf_of count xs ≡ Some (record { scale = nat_abs (get_or xs 0 (pos 0)); terms = terms_of (drop 2 xs) })
+pub leaf_read : (count : ℕ) (xs : List ℤ) → 2 ≤ length xs → is_record_row count (nat_abs (get_or xs 0 (pos 0))) (nat_abs (get_or xs 1 (pos 0))) (drop 2 xs) ≡ true → record_of count xs ≡ Some (record { scale = nat_abs (get_or xs 0 (pos 0)); terms = terms_of (drop 2 xs) })
 leaf_read count [] h e = absurd (omega arith)
 leaf_read count (a ∷ []) h e = absurd (omega arith)
-leaf_read count (a ∷ b ∷ xs) h e = ap (λ (t : Bool). cond {A = Option LeafTerms} t (Some (record { scale = nat_abs a; terms = terms_of xs })) None) e
+leaf_read count (a ∷ b ∷ xs) h e = ap (λ (t : Bool). cond {A = Option CertRecord} t (Some (record { scale = nat_abs a; terms = terms_of xs })) None) e
 
-pub leaf_not : (count : ℕ) (xs : List ℤ) → 2 ≤ length xs → is_leaf_row count (nat_abs (get_or xs 0 (pos 0))) (nat_abs (get_or xs 1 (pos 0))) (drop 2 xs) ≡ false → leaf_of count xs ≡ None
+pub leaf_not : (count : ℕ) (xs : List ℤ) → 2 ≤ length xs → is_record_row count (nat_abs (get_or xs 0 (pos 0))) (nat_abs (get_or xs 1 (pos 0))) (drop 2 xs) ≡ false → record_of count xs ≡ None
 leaf_not count [] h e = absurd (omega arith)
 leaf_not count (a ∷ []) h e = absurd (omega arith)
-leaf_not count (a ∷ b ∷ xs) h e = ap (λ (t : Bool). cond {A = Option LeafTerms} t (Some (record { scale = nat_abs a; terms = terms_of xs })) None) e
+leaf_not count (a ∷ b ∷ xs) h e = ap (λ (t : Bool). cond {A = Option CertRecord} t (Some (record { scale = nat_abs a; terms = terms_of xs })) None) e
 
-pub leaf_short : (count : ℕ) (xs : List ℤ) → length xs < 2 → leaf_of count xs ≡ None
+pub leaf_short : (count : ℕ) (xs : List ℤ) → length xs < 2 → record_of count xs ≡ None
 leaf_short count [] h = refl
 leaf_short count (a ∷ []) h = refl
 leaf_short count (a ∷ b ∷ xs) h = absurd (omega arith)

@@ -1,14 +1,16 @@
 -- The walk over the lines of the cuts and of the tree.
-use Rattle.std.proofs.Common.{◌≡◌, ℕ, suc, ◌+◌, ◌-◌, ◌<◌, ◌≤◌, Bool, true, false, List, [], ◌∷◌, ◌++◌, length, ℤ, refl, sym, ◌∙◌, ap, subst, arith}
+use Rattle.std.proofs.Common.{◌≡◌, ℕ, suc, ◌+◌, ◌-◌, ◌<◌, ◌≤◌, Bool, true, false, List, [], ◌∷◌, ◌++◌, length, ℤ, Option, refl, sym, ◌∙◌, ap, subst, arith}
 use Rattle.std.proofs.lemmas.List.{length_push}
 use Rattle.lop_model.specs.declared.pair.Pair.{Pair}
 use Rattle.lop_model.specs.Matrix.{Matrix}
 use Rattle.lop_cuts.specs.declared.kind.CutKind.{CutKind}
 use Rattle.lop_certtext.specs.declared.reason.Reason.{Reason}
 use Rattle.lop_certtext.specs.declared.word.CertWord.{CertWord}
+use Rattle.lop_certtext.specs.declared.version.CertVersion.{CertVersion}
 use Rattle.lop_certtext.specs.Line.{CertLine}
+use Rattle.lop_certtext.specs.RecordLine.{CertRecord}
 use Rattle.lop_model.specs.Closing.{closed}
-use Rattle.lop_certtext.specs.Answer.{TextLine, ended_line, unended_line, long_line, long_file, CheckAnswer, rejected, spelled, node_step, tree_step, cut_step, cuts_left_step}
+use Rattle.lop_certtext.specs.Answer.{TextLine, ended_line, unended_line, long_line, long_file, CheckAnswer, rejected, spelled, node_step, tree_step, cut_step, cuts_left_step, records_step}
 use Rattle.lop_check.specs.declared.verdict.Verdict.{Verdict}
 use Rattle.lop_check.specs.declared.verdict.Verdict.TheVariants as verdict
 use Rattle.lop_check.specs.TreePlace.{TreePlace, pending, pending_if}
@@ -16,55 +18,56 @@ use Rattle.lop_check.specs.Walk.{Spot, ReadsOn, EndsCheck}
 use Rattle.lop_check.proofs.Walk.{passes, begins, begins_end, fails, then_on, then_ends}
 
 -- a line of the tree, and then the rest
-abbrev pub node_then : Matrix → List CutKind → ℤ → ℤ → List Pair → List (List Pair) → ℕ → CertLine → List TextLine → CheckAnswer
-node_then C cuts value bound path others number line rest =
-    node_step C cuts bound (closed path) path others number line.word line.numbers (λ left. tree_step closed C cuts value bound left (number + 1) rest)
+abbrev pub node_then : Matrix → List CutKind → (List ℤ → Option CertRecord) → ℤ → ℤ → List Pair → List (List Pair) → ℕ → CertLine → List TextLine → CheckAnswer
+node_then C cuts L value bound path others number line rest =
+    node_step C cuts L bound (closed path) path others number line.word line.numbers (λ left. tree_step closed C cuts L value bound left (number + 1) rest)
 
-tree_spelled : (C : Matrix) (cuts : List CutKind) (value bound : ℤ) (path : List Pair) (others : List (List Pair)) (number : ℕ) (lines : List TextLine) → tree_step closed C cuts value bound (path ∷ others) number lines ≡ spelled number lines (node_then C cuts value bound path others number)
-tree_spelled C cuts value bound path others number [] = refl
-tree_spelled C cuts value bound path others number (long_file ∷ lines) = refl
-tree_spelled C cuts value bound path others number (long_line ∷ lines) = refl
-tree_spelled C cuts value bound path others number (ended_line bytes ∷ lines) = refl
-tree_spelled C cuts value bound path others number (unended_line bytes ∷ lines) = refl
+tree_spelled : (C : Matrix) (cuts : List CutKind) (L : List ℤ → Option CertRecord) (value bound : ℤ) (path : List Pair) (others : List (List Pair)) (number : ℕ) (lines : List TextLine) → tree_step closed C cuts L value bound (path ∷ others) number lines ≡ spelled number lines (node_then C cuts L value bound path others number)
+tree_spelled C cuts L value bound path others number [] = refl
+tree_spelled C cuts L value bound path others number (long_file ∷ lines) = refl
+tree_spelled C cuts L value bound path others number (long_line ∷ lines) = refl
+tree_spelled C cuts L value bound path others number (ended_line bytes ∷ lines) = refl
+tree_spelled C cuts L value bound path others number (unended_line bytes ∷ lines) = refl
 
 -- the line of a node, by its number before it was read and after it
-pub node_goes : (C : Matrix) (cuts : List CutKind) (value bound : ℤ) (at : TreePlace) (left : List (List Pair)) (number same : ℕ) (a b : Spot) (word : CertWord) (numbers : List ℤ)
-    → ReadsOn a b (λ lines. spelled number lines (node_then C cuts value bound at.path at.others number)) (node_then C cuts value bound at.path at.others same (record { word = word; numbers = numbers }))
-    → ((next : List (List Pair) → CheckAnswer) → node_step C cuts bound (closed at.path) at.path at.others same word numbers next ≡ next left)
-    → ReadsOn a b (tree_step closed C cuts value bound (pending at) number) (tree_step closed C cuts value bound left (same + 1))
-node_goes C cuts value bound at left number same a b word numbers reads goes =
-    begins a b (λ lines. spelled number lines (node_then C cuts value bound at.path at.others number)) (tree_step closed C cuts value bound (pending at) number) (tree_step closed C cuts value bound left (same + 1)) (tree_spelled C cuts value bound at.path at.others number)
-    (passes a b (λ lines. spelled number lines (node_then C cuts value bound at.path at.others number)) (node_then C cuts value bound at.path at.others same (record { word = word; numbers = numbers })) (tree_step closed C cuts value bound left (same + 1)) (λ rest. goes (λ l. tree_step closed C cuts value bound l (same + 1) rest)) reads)
+pub node_goes : (C : Matrix) (cuts : List CutKind) (L : List ℤ → Option CertRecord) (value bound : ℤ) (at : TreePlace) (left : List (List Pair)) (number same : ℕ) (a b : Spot) (word : CertWord) (numbers : List ℤ)
+    → ReadsOn a b (λ lines. spelled number lines (node_then C cuts L value bound at.path at.others number)) (node_then C cuts L value bound at.path at.others same (record { word = word; numbers = numbers }))
+    → ((next : List (List Pair) → CheckAnswer) → node_step C cuts L bound (closed at.path) at.path at.others same word numbers next ≡ next left)
+    → ReadsOn a b (tree_step closed C cuts L value bound (pending at) number) (tree_step closed C cuts L value bound left (same + 1))
+node_goes C cuts L value bound at left number same a b word numbers reads goes =
+    begins a b (λ lines. spelled number lines (node_then C cuts L value bound at.path at.others number)) (tree_step closed C cuts L value bound (pending at) number) (tree_step closed C cuts L value bound left (same + 1)) (tree_spelled C cuts L value bound at.path at.others number)
+    (passes a b (λ lines. spelled number lines (node_then C cuts L value bound at.path at.others number)) (node_then C cuts L value bound at.path at.others same (record { word = word; numbers = numbers })) (tree_step closed C cuts L value bound left (same + 1)) (λ rest. goes (λ l. tree_step closed C cuts L value bound l (same + 1) rest)) reads)
 
-pub node_stops : (C : Matrix) (cuts : List CutKind) (value bound : ℤ) (at : TreePlace) (number : ℕ) (a b : Spot) (v : Verdict) → EndsCheck a b (λ lines. spelled number lines (node_then C cuts value bound at.path at.others number)) v → EndsCheck a b (tree_step closed C cuts value bound (pending at) number) v
-node_stops C cuts value bound at number a b v stops =
-    begins_end a b (λ lines. spelled number lines (node_then C cuts value bound at.path at.others number)) (tree_step closed C cuts value bound (pending at) number) v (tree_spelled C cuts value bound at.path at.others number) stops
+pub node_stops : (C : Matrix) (cuts : List CutKind) (L : List ℤ → Option CertRecord) (value bound : ℤ) (at : TreePlace) (number : ℕ) (a b : Spot) (v : Verdict) → EndsCheck a b (λ lines. spelled number lines (node_then C cuts L value bound at.path at.others number)) v → EndsCheck a b (tree_step closed C cuts L value bound (pending at) number) v
+node_stops C cuts L value bound at number a b v stops =
+    begins_end a b (λ lines. spelled number lines (node_then C cuts L value bound at.path at.others number)) (tree_step closed C cuts L value bound (pending at) number) v (tree_spelled C cuts L value bound at.path at.others number) stops
 
 -- the test of a node's line says this of what it was told; it says the same by other names
 retold : (P : ℤ → List Pair → List ℤ → Type 0) (b b2 : ℤ) (G G2 : List Pair) (ns ns2 : List ℤ) → b ≡ b2 → G ≡ G2 → ns ≡ ns2 → P b G ns → P b2 G2 ns2
 retold P b b2 G G2 ns ns2 eb eg es h = subst (λ (x : List ℤ). P b2 G2 x) es (subst (λ (x : List Pair). P b2 x ns) eg (subst (λ (x : ℤ). P x G ns) eb h))
 
 -- a line that passes its test
-pub node_passed : (C : Matrix) (cuts left_cuts : List CutKind) (value bound told_bound : ℤ) (G : List Pair) (at : TreePlace) (left : List (List Pair)) (number same : ℕ) (a b : Spot) (word : CertWord) (numbers told_numbers : List ℤ)
-    → left_cuts ≡ cuts → told_bound ≡ bound → G ≡ closed at.path → told_numbers ≡ numbers
-    → ReadsOn a b (λ lines. spelled number lines (node_then C cuts value bound at.path at.others number)) (node_then C cuts value bound at.path at.others same (record { word = word; numbers = numbers }))
-    → ((k : ℕ) (next : List (List Pair) → CheckAnswer) → node_step C cuts told_bound G at.path at.others k word told_numbers next ≡ next left)
-    → ReadsOn a b (tree_step closed C cuts value bound (pending at) number) (tree_step closed C left_cuts value bound left (same + 1))
-node_passed C cuts left_cuts value bound told_bound G at left number same a b word numbers told_numbers ec eb eg es reads goes =
-    subst (λ (l : List CutKind). ReadsOn a b (tree_step closed C cuts value bound (pending at) number) (tree_step closed C l value bound left (same + 1))) (sym ec)
-    (node_goes C cuts value bound at left number same a b word numbers reads
-    (retold (λ (x : ℤ) (H : List Pair) (ns : List ℤ). (next : List (List Pair) → CheckAnswer) → node_step C cuts x H at.path at.others same word ns next ≡ next left) told_bound bound G (closed at.path) told_numbers numbers eb eg es (goes same)))
+pub node_passed : (C : Matrix) (cuts left_cuts : List CutKind) (L left_L : List ℤ → Option CertRecord) (value bound told_bound : ℤ) (G : List Pair) (at : TreePlace) (left : List (List Pair)) (number same : ℕ) (a b : Spot) (word : CertWord) (numbers told_numbers : List ℤ)
+    → left_cuts ≡ cuts → left_L ≡ L → told_bound ≡ bound → G ≡ closed at.path → told_numbers ≡ numbers
+    → ReadsOn a b (λ lines. spelled number lines (node_then C cuts L value bound at.path at.others number)) (node_then C cuts L value bound at.path at.others same (record { word = word; numbers = numbers }))
+    → ((k : ℕ) (next : List (List Pair) → CheckAnswer) → node_step C cuts L told_bound G at.path at.others k word told_numbers next ≡ next left)
+    → ReadsOn a b (tree_step closed C cuts L value bound (pending at) number) (tree_step closed C left_cuts left_L value bound left (same + 1))
+node_passed C cuts left_cuts L left_L value bound told_bound G at left number same a b word numbers told_numbers ec el eb eg es reads goes =
+    subst (λ (l : List CutKind). ReadsOn a b (tree_step closed C cuts L value bound (pending at) number) (tree_step closed C l left_L value bound left (same + 1))) (sym ec)
+    (subst (λ (f : List ℤ → Option CertRecord). ReadsOn a b (tree_step closed C cuts L value bound (pending at) number) (tree_step closed C cuts f value bound left (same + 1))) (sym el)
+    (node_goes C cuts L value bound at left number same a b word numbers reads
+    (retold (λ (x : ℤ) (H : List Pair) (ns : List ℤ). (next : List (List Pair) → CheckAnswer) → node_step C cuts L x H at.path at.others same word ns next ≡ next left) told_bound bound G (closed at.path) told_numbers numbers eb eg es (goes same))))
 
 -- a line that fails it
-pub node_failed : (C : Matrix) (cuts : List CutKind) (value bound told_bound : ℤ) (G : List Pair) (at : TreePlace) (number same : ℕ) (a b : Spot) (word : CertWord) (numbers told_numbers : List ℤ) (v : Verdict) (why : Reason)
+pub node_failed : (C : Matrix) (cuts : List CutKind) (L : List ℤ → Option CertRecord) (value bound told_bound : ℤ) (G : List Pair) (at : TreePlace) (number same : ℕ) (a b : Spot) (word : CertWord) (numbers told_numbers : List ℤ) (v : Verdict) (why : Reason)
     → told_bound ≡ bound → G ≡ closed at.path → told_numbers ≡ numbers → v ≡ verdict.Rejected same why
-    → ReadsOn a b (λ lines. spelled number lines (node_then C cuts value bound at.path at.others number)) (node_then C cuts value bound at.path at.others same (record { word = word; numbers = numbers }))
-    → ((k : ℕ) (next : List (List Pair) → CheckAnswer) → node_step C cuts told_bound G at.path at.others k word told_numbers next ≡ rejected k why)
-    → EndsCheck a b (tree_step closed C cuts value bound (pending at) number) v
-node_failed C cuts value bound told_bound G at number same a b word numbers told_numbers v why eb eg es is reads stops =
-    node_stops C cuts value bound at number a b v
-    (fails a b (λ lines. spelled number lines (node_then C cuts value bound at.path at.others number)) (node_then C cuts value bound at.path at.others same (record { word = word; numbers = numbers })) v same why is
-    (λ rest. retold (λ (x : ℤ) (H : List Pair) (ns : List ℤ). (next : List (List Pair) → CheckAnswer) → node_step C cuts x H at.path at.others same word ns next ≡ rejected same why) told_bound bound G (closed at.path) told_numbers numbers eb eg es (stops same) (λ l. tree_step closed C cuts value bound l (same + 1) rest)) reads)
+    → ReadsOn a b (λ lines. spelled number lines (node_then C cuts L value bound at.path at.others number)) (node_then C cuts L value bound at.path at.others same (record { word = word; numbers = numbers }))
+    → ((k : ℕ) (next : List (List Pair) → CheckAnswer) → node_step C cuts L told_bound G at.path at.others k word told_numbers next ≡ rejected k why)
+    → EndsCheck a b (tree_step closed C cuts L value bound (pending at) number) v
+node_failed C cuts L value bound told_bound G at number same a b word numbers told_numbers v why eb eg es is reads stops =
+    node_stops C cuts L value bound at number a b v
+    (fails a b (λ lines. spelled number lines (node_then C cuts L value bound at.path at.others number)) (node_then C cuts L value bound at.path at.others same (record { word = word; numbers = numbers })) v same why is
+    (λ rest. retold (λ (x : ℤ) (H : List Pair) (ns : List ℤ). (next : List (List Pair) → CheckAnswer) → node_step C cuts L x H at.path at.others same word ns next ≡ rejected same why) told_bound bound G (closed at.path) told_numbers numbers eb eg es (stops same) (λ l. tree_step closed C cuts L value bound l (same + 1) rest)) reads)
 
 pub left_if : (b : Bool) (at : TreePlace) → b ≡ true → pending_if b at ≡ pending at
 left_if b at e = ap (λ (t : Bool). pending_if t at) e
@@ -75,50 +78,50 @@ left_none b at e = ap (λ (t : Bool). pending_if t at) e
 -- ---- cuts
 
 -- the line of a cut, and then so many less
-abbrev pub cut_then : Matrix → ℤ → ℤ → ℕ → List CutKind → ℕ → CutKind → List TextLine → CheckAnswer
-cut_then C value bound more cuts number cut rest = cuts_left_step closed C value bound more (cuts ++ cut ∷ []) (number + 1) rest
+abbrev pub cut_then : Matrix → CertVersion → ℤ → ℤ → ℕ → List CutKind → ℕ → CutKind → List TextLine → CheckAnswer
+cut_then C version value bound more cuts number cut rest = cuts_left_step closed C version value bound more (cuts ++ cut ∷ []) (number + 1) rest
 
-pub left_is : (C : Matrix) (value bound : ℤ) (count done : ℕ) (cuts : List CutKind) (number : ℕ) (lines : List TextLine) → done < count → cuts_left_step closed C value bound (count - done) cuts number lines ≡ spelled number lines (λ line rest. cut_step C.size number line.word line.numbers (λ cut. cut_then C value bound (count - (done + 1)) cuts number cut rest))
-left_is C value bound count done cuts number lines less =
+pub left_is : (C : Matrix) (version : CertVersion) (value bound : ℤ) (count done : ℕ) (cuts : List CutKind) (number : ℕ) (lines : List TextLine) → done < count → cuts_left_step closed C version value bound (count - done) cuts number lines ≡ spelled number lines (λ line rest. cut_step C.size number line.word line.numbers (λ cut. cut_then C version value bound (count - (done + 1)) cuts number cut rest))
+left_is C version value bound count done cuts number lines less =
     let one : count - done ≡ suc (count - (done + 1)) = omega arith in
-    ap (λ (k : ℕ). cuts_left_step closed C value bound k cuts number lines) one
+    ap (λ (k : ℕ). cuts_left_step closed C version value bound k cuts number lines) one
 
-left_of : (C : Matrix) (value bound : ℤ) (count n : ℕ) (cuts : List CutKind) (number : ℕ) (lines : List TextLine) → length cuts < count → n ≡ C.size
-    → cuts_left_step closed C value bound (count - length cuts) cuts number lines ≡ spelled number lines (λ line rest. cut_step n number line.word line.numbers (λ cut. cut_then C value bound (count - (length cuts + 1)) cuts number cut rest))
-left_of C value bound count n cuts number lines less size =
-    left_is C value bound count (length cuts) cuts number lines less
-    ∙ ap (λ (m : ℕ). spelled number lines (λ line rest. cut_step m number line.word line.numbers (λ cut. cut_then C value bound (count - (length cuts + 1)) cuts number cut rest))) (sym size)
+left_of : (C : Matrix) (version : CertVersion) (value bound : ℤ) (count n : ℕ) (cuts : List CutKind) (number : ℕ) (lines : List TextLine) → length cuts < count → n ≡ C.size
+    → cuts_left_step closed C version value bound (count - length cuts) cuts number lines ≡ spelled number lines (λ line rest. cut_step n number line.word line.numbers (λ cut. cut_then C version value bound (count - (length cuts + 1)) cuts number cut rest))
+left_of C version value bound count n cuts number lines less size =
+    left_is C version value bound count (length cuts) cuts number lines less
+    ∙ ap (λ (m : ℕ). spelled number lines (λ line rest. cut_step m number line.word line.numbers (λ cut. cut_then C version value bound (count - (length cuts + 1)) cuts number cut rest))) (sym size)
 
 -- all cuts are there
-pub none_left : (C : Matrix) (value bound : ℤ) (count done : ℕ) (cuts : List CutKind) (number : ℕ) (lines : List TextLine) → count ≤ done → cuts_left_step closed C value bound (count - done) cuts number lines ≡ tree_step closed C cuts value bound ([] ∷ []) number lines
-none_left C value bound count done cuts number lines all =
+pub none_left : (C : Matrix) (version : CertVersion) (value bound : ℤ) (count done : ℕ) (cuts : List CutKind) (number : ℕ) (lines : List TextLine) → count ≤ done → cuts_left_step closed C version value bound (count - done) cuts number lines ≡ records_step closed C version cuts value bound number lines
+none_left C version value bound count done cuts number lines all =
     let none : count - done ≡ 0 = omega arith in
-    ap (λ (k : ℕ). cuts_left_step closed C value bound k cuts number lines) none
+    ap (λ (k : ℕ). cuts_left_step closed C version value bound k cuts number lines) none
 
 -- one more cut is read
-pub cut_on : (C : Matrix) (value bound : ℤ) (count n : ℕ) (cuts : List CutKind) (cut : CutKind) (a b c : Spot) (whole : List TextLine → CheckAnswer) (number same : ℕ) → length cuts < count → n ≡ C.size → ReadsOn a b whole (cuts_left_step closed C value bound (count - length cuts) cuts number)
-    → ReadsOn b c (λ lines. spelled number lines (λ line rest. cut_step n number line.word line.numbers (λ x. cut_then C value bound (count - (length cuts + 1)) cuts number x rest))) (cut_then C value bound (count - (length cuts + 1)) cuts same cut)
-    → ReadsOn a c whole (cut_then C value bound (count - (length cuts + 1)) cuts same cut)
-cut_on C value bound count n cuts cut a b c whole number same less size x y =
-    then_on a b c whole (λ lines. spelled number lines (λ line rest. cut_step n number line.word line.numbers (λ x. cut_then C value bound (count - (length cuts + 1)) cuts number x rest))) (cut_then C value bound (count - (length cuts + 1)) cuts same cut)
-    (passes a b whole (cuts_left_step closed C value bound (count - length cuts) cuts number) (λ lines. spelled number lines (λ line rest. cut_step n number line.word line.numbers (λ x. cut_then C value bound (count - (length cuts + 1)) cuts number x rest))) (λ lines. left_of C value bound count n cuts number lines less size) x) y
+pub cut_on : (C : Matrix) (version : CertVersion) (value bound : ℤ) (count n : ℕ) (cuts : List CutKind) (cut : CutKind) (a b c : Spot) (whole : List TextLine → CheckAnswer) (number same : ℕ) → length cuts < count → n ≡ C.size → ReadsOn a b whole (cuts_left_step closed C version value bound (count - length cuts) cuts number)
+    → ReadsOn b c (λ lines. spelled number lines (λ line rest. cut_step n number line.word line.numbers (λ x. cut_then C version value bound (count - (length cuts + 1)) cuts number x rest))) (cut_then C version value bound (count - (length cuts + 1)) cuts same cut)
+    → ReadsOn a c whole (cut_then C version value bound (count - (length cuts + 1)) cuts same cut)
+cut_on C version value bound count n cuts cut a b c whole number same less size x y =
+    then_on a b c whole (λ lines. spelled number lines (λ line rest. cut_step n number line.word line.numbers (λ x. cut_then C version value bound (count - (length cuts + 1)) cuts number x rest))) (cut_then C version value bound (count - (length cuts + 1)) cuts same cut)
+    (passes a b whole (cuts_left_step closed C version value bound (count - length cuts) cuts number) (λ lines. spelled number lines (λ line rest. cut_step n number line.word line.numbers (λ x. cut_then C version value bound (count - (length cuts + 1)) cuts number x rest))) (λ lines. left_of C version value bound count n cuts number lines less size) x) y
 
 -- the list has it from then on
-pub cut_more : (C : Matrix) (value bound : ℤ) (count : ℕ) (cuts pushed : List CutKind) (cut : CutKind) (a c : Spot) (whole : List TextLine → CheckAnswer) (same : ℕ) → pushed ≡ cuts ++ cut ∷ [] → ReadsOn a c whole (cut_then C value bound (count - (length cuts + 1)) cuts same cut)
-    → ReadsOn a c whole (cuts_left_step closed C value bound (count - length pushed) pushed (same + 1))
-cut_more C value bound count cuts pushed cut a c whole same is x =
+pub cut_more : (C : Matrix) (version : CertVersion) (value bound : ℤ) (count : ℕ) (cuts pushed : List CutKind) (cut : CutKind) (a c : Spot) (whole : List TextLine → CheckAnswer) (same : ℕ) → pushed ≡ cuts ++ cut ∷ [] → ReadsOn a c whole (cut_then C version value bound (count - (length cuts + 1)) cuts same cut)
+    → ReadsOn a c whole (cuts_left_step closed C version value bound (count - length pushed) pushed (same + 1))
+cut_more C version value bound count cuts pushed cut a c whole same is x =
     let longer : count - (length cuts + 1) ≡ count - length (cuts ++ cut ∷ []) = omega (arith, length_push cuts cut) in
-    passes a c whole (cut_then C value bound (count - (length cuts + 1)) cuts same cut) (cuts_left_step closed C value bound (count - length pushed) pushed (same + 1))
-    (λ lines. ap (λ (k : ℕ). cuts_left_step closed C value bound k (cuts ++ cut ∷ []) (same + 1) lines) longer ∙ ap (λ (l : List CutKind). cuts_left_step closed C value bound (count - length l) l (same + 1) lines) (sym is)) x
+    passes a c whole (cut_then C version value bound (count - (length cuts + 1)) cuts same cut) (cuts_left_step closed C version value bound (count - length pushed) pushed (same + 1))
+    (λ lines. ap (λ (k : ℕ). cuts_left_step closed C version value bound k (cuts ++ cut ∷ []) (same + 1) lines) longer ∙ ap (λ (l : List CutKind). cuts_left_step closed C version value bound (count - length l) l (same + 1) lines) (sym is)) x
 
-pub cut_ends : (C : Matrix) (value bound : ℤ) (count n : ℕ) (cuts : List CutKind) (a b c : Spot) (whole : List TextLine → CheckAnswer) (number : ℕ) (v : Verdict) → length cuts < count → n ≡ C.size → ReadsOn a b whole (cuts_left_step closed C value bound (count - length cuts) cuts number)
-    → EndsCheck b c (λ lines. spelled number lines (λ line rest. cut_step n number line.word line.numbers (λ x. cut_then C value bound (count - (length cuts + 1)) cuts number x rest))) v → EndsCheck a c whole v
-cut_ends C value bound count n cuts a b c whole number v less size x y =
-    then_ends a b c whole (λ lines. spelled number lines (λ line rest. cut_step n number line.word line.numbers (λ x. cut_then C value bound (count - (length cuts + 1)) cuts number x rest))) v
-    (passes a b whole (cuts_left_step closed C value bound (count - length cuts) cuts number) (λ lines. spelled number lines (λ line rest. cut_step n number line.word line.numbers (λ x. cut_then C value bound (count - (length cuts + 1)) cuts number x rest))) (λ lines. left_of C value bound count n cuts number lines less size) x) y
+pub cut_ends : (C : Matrix) (version : CertVersion) (value bound : ℤ) (count n : ℕ) (cuts : List CutKind) (a b c : Spot) (whole : List TextLine → CheckAnswer) (number : ℕ) (v : Verdict) → length cuts < count → n ≡ C.size → ReadsOn a b whole (cuts_left_step closed C version value bound (count - length cuts) cuts number)
+    → EndsCheck b c (λ lines. spelled number lines (λ line rest. cut_step n number line.word line.numbers (λ x. cut_then C version value bound (count - (length cuts + 1)) cuts number x rest))) v → EndsCheck a c whole v
+cut_ends C version value bound count n cuts a b c whole number v less size x y =
+    then_ends a b c whole (λ lines. spelled number lines (λ line rest. cut_step n number line.word line.numbers (λ x. cut_then C version value bound (count - (length cuts + 1)) cuts number x rest))) v
+    (passes a b whole (cuts_left_step closed C version value bound (count - length cuts) cuts number) (λ lines. spelled number lines (λ line rest. cut_step n number line.word line.numbers (λ x. cut_then C version value bound (count - (length cuts + 1)) cuts number x rest))) (λ lines. left_of C version value bound count n cuts number lines less size) x) y
 
 -- no cut is there yet
-pub none_yet : (C : Matrix) (value bound : ℤ) (told count number : ℕ) (cuts : List CutKind) (lines : List TextLine) → count ≡ told → cuts ≡ [] → cuts_left_step closed C value bound told [] number lines ≡ cuts_left_step closed C value bound (count - length cuts) cuts number lines
-none_yet C value bound told count number cuts lines is none =
+pub none_yet : (C : Matrix) (version : CertVersion) (value bound : ℤ) (told count number : ℕ) (cuts : List CutKind) (lines : List TextLine) → count ≡ told → cuts ≡ [] → cuts_left_step closed C version value bound told [] number lines ≡ cuts_left_step closed C version value bound (count - length cuts) cuts number lines
+none_yet C version value bound told count number cuts lines is none =
     let all : told ≡ count - length cuts = omega (arith, is, ap length none) in
-    ap (λ (k : ℕ). cuts_left_step closed C value bound k [] number lines) all ∙ ap (λ (l : List CutKind). cuts_left_step closed C value bound (count - length cuts) l number lines) (sym none)
+    ap (λ (k : ℕ). cuts_left_step closed C version value bound k [] number lines) all ∙ ap (λ (l : List CutKind). cuts_left_step closed C version value bound (count - length cuts) l number lines) (sym none)

@@ -19,7 +19,7 @@ use Rattle.lop_desk.proofs.Printing.{rose_from}
 use Rattle.lop_certtext.specs.declared.word.CertWord.{CertWord}
 use Rattle.lop_certtext.specs.declared.reason.Reason.{Reason}
 use Rattle.lop_certtext.specs.declared.reason.Reason.TheVariants as reason
-use Rattle.lop_certtext.specs.declared.word.CertWord.TheVariants.{Version, Objects, OrderLine, Value, Bound, Cuts, Dicycle, Fence, Ladder, SplitLine, Leaf, End}
+use Rattle.lop_certtext.specs.declared.word.CertWord.TheVariants.{Version, Objects, OrderLine, Value, Bound, Cuts, Dicycle, Fence, Ladder, RecordsLine, RecordLine, SplitLine, Leaf, End}
 use Rattle.lop_certtext.specs.contracts.word.CertWord.{the_type}
 use denote.Enum.Bare.{sameb}
 use Rattle.lop_certtext.specs.Line.{CertLine, line_reading}
@@ -290,6 +290,8 @@ due_test OrderLine OrderLine = refl
 due_test Value Value = refl
 due_test Bound Bound = refl
 due_test Cuts Cuts = refl
+due_test RecordsLine RecordsLine = refl
+due_test RecordLine RecordLine = refl
 due_test Dicycle Dicycle = refl
 due_test Fence Fence = refl
 due_test Ladder Ladder = refl

@@ -5,7 +5,7 @@ use Rattle.lop_cuts.specs.declared.kind.CutKind.{CutKind}
 use Rattle.std.proofs.lemmas.List.Elements.{All-get_or}
 use Rattle.lop_cuts.specs.Kind.{FitsCut}
 use Rattle.lop_cuts.specs.Lagrangian.{Term, right_sides}
-use Rattle.lop_certtext.specs.LeafLine.{CutTerm, cut_at, terms_of, terms_in}
+use Rattle.lop_certtext.specs.RecordLine.{CutTerm, cut_at, terms_of, terms_in}
 use Rattle.lop_cuts.specs.Charges.{HasCharges}
 use Rattle.lop_check.proofs.Charging.{charged_more, sides_more, length-terms_of}
 use Rattle.lop_check.proofs.charge.charge_terms.Goals as goal

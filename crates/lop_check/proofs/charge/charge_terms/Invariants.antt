@@ -1,6 +1,6 @@
 use Rattle.std.proofs.Common.{◌≡◌, ◌*◌, ◌^◌, ◌≤◌, ◌<◌, ℕ, take}
 use Rattle.lop_cuts.specs.Lagrangian.{right_sides}
-use Rattle.lop_certtext.specs.LeafLine.{terms_of, terms_in}
+use Rattle.lop_certtext.specs.RecordLine.{terms_of, terms_in}
 use Rattle.lop_model.specs.Cells.{cell}
 use Rattle.lop_cuts.specs.Charges.{HasCharges}
 use Rattle.lop_check.proofs.charge.charge_terms.Given as goal

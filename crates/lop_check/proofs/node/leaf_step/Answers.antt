@@ -1,7 +1,7 @@
 use Rattle.std.proofs.Common.{◌≡◌, ◌∙◌, ◌-◌, ap, sym, subst, rules, arith, List, ℕ, ℤ, Option, Some, true, take, drop, get_or, nat_abs, pos, length, w64, to_z, of_z, FitsSigned}
 use Rattle.std.proofs.lemmas.Int.{to_z-of_z}
 use Rattle.std.proofs.lemmas.List.{take_rest}
-use Rattle.lop_certtext.specs.LeafLine.{LeafTerms, terms_of, is_leaf_row, leaf_of}
+use Rattle.lop_certtext.specs.RecordLine.{CertRecord, terms_of, is_leaf_row, leaf_of}
 use Rattle.lop_certtext.specs.Answer.{leaf_step}
 use Rattle.lop_check.specs.TreePlace.{place}
 use Rattle.lop_check.specs.Nodes.{TakesLine}
@@ -31,5 +31,5 @@ returns-else-not-is_leaf_row c =
     leaf_read (length cuts) ns c.in-len2-up.len_at_least test
     ∙ ap (λ (k : ℕ). Some (record { scale = k; terms = terms_of (drop 2 ns) })) (sym scale)
     ∙ ap (λ (l : List ℤ). Some (record { scale = c.unsigned_abs-scale.result; terms = terms_of l })) (sym (take_rest ns 2)) in
-    subst (λ (o : Option LeafTerms). TakesLine C.size old c.shown_step.new.proof (λ number next. leaf_step C cuts c.args.bound old.walk.trail.fixed (place old.walk).others number o next) c.shown_step.result) (sym made)
+    subst (λ (o : Option CertRecord). TakesLine C.size old c.shown_step.new.proof (λ number next. leaf_step C cuts c.args.bound old.walk.trail.fixed (place old.walk).others number o next) c.shown_step.result) (sym made)
     (subst (λ (b : ℤ). TakesLine C.size old c.shown_step.new.proof (λ number next. leaf_step C cuts b old.walk.trail.fixed (place old.walk).others number (Some (record { scale = c.unsigned_abs-scale.result; terms = terms_of (take (length ns - 2) (drop 2 ns)) })) next) c.shown_step.result) (to_z-of_z w64 c.args.bound fits) c.shown_step.ensures)

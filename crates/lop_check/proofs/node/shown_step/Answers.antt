@@ -5,7 +5,7 @@ use Rattle.std.proofs.lemmas.Int.{to_z-of_z}
 use Rattle.lop_model.specs.declared.pair.Pair.{Pair}
 use Rattle.lop_cuts.specs.declared.kind.CutKind.{CutKind}
 use Rattle.lop_certtext.specs.declared.reason.Reason.TheVariants as reason
-use Rattle.lop_certtext.specs.LeafLine.{LeafTerms, terms_of}
+use Rattle.lop_certtext.specs.RecordLine.{CertRecord, terms_of}
 use Rattle.lop_certtext.specs.Answer.{CheckAnswer, rejected, leaf_value, leaf_limit}
 use Rattle.lop_check.specs.TreePlace.{place}
 use Rattle.lop_check.proofs.Walk.{lt_test, not_lt_test}
@@ -19,7 +19,7 @@ returns-then-upper-limit c =
     let old = c.args.proof.now in
     let cuts = old.cuts.items in
     let G = old.walk.trail.fixed in
-    let l : LeafTerms = record { scale = c.args.scale; terms = terms_of c.args.terms.now } in
+    let l : CertRecord = record { scale = c.args.scale; terms = terms_of c.args.terms.now } in
     let fits : FitsSigned w64 c.args.bound = c.ranges.bound in
     let fit_u : FitsSigned w128 c.upper-upper.result = search rules in
     let fit_l : FitsSigned w128 c.limit_of-limit.result = search rules in
@@ -44,7 +44,7 @@ returns-else-upper-limit c =
     let old = c.args.proof.now in
     let cuts = old.cuts.items in
     let G = old.walk.trail.fixed in
-    let l : LeafTerms = record { scale = c.args.scale; terms = terms_of c.args.terms.now } in
+    let l : CertRecord = record { scale = c.args.scale; terms = terms_of c.args.terms.now } in
     let fits : FitsSigned w64 c.args.bound = c.ranges.bound in
     let fit_u : FitsSigned w128 c.upper-upper.result = search rules in
     let fit_l : FitsSigned w128 c.limit_of-limit.result = search rules in

@@ -1,9 +1,9 @@
 use Rattle.std.proofs.Common.{◌≡◌, ◌∙◌, ◌*◌, ◌&&◌, ◌+◌, ◌<◌, false, nat_abs, get_or, pos, ℤ, Bool, drop, ap, sym, length, arith, rules, w64, FitsSigned}
 use Rattle.std.proofs.lemmas.Int.{to_z-of_z}
-use Rattle.lop_certtext.specs.LeafLine.{are_rising, terms_of}
-use Rattle.lop_check.specs.Nodes.{follows}
+use Rattle.lop_certtext.specs.RecordLine.{are_rising, terms_of}
+use Rattle.lop_check.specs.Records.{follows}
 use Rattle.lop_check.proofs.NodeLemmas.{rising_step, none_rising}
-use Rattle.lop_check.proofs.leaf.are_rising.Goals as goal
+use Rattle.lop_check.proofs.record.are_rising.Goals as goal
 
 pub returns-then-not-may_follow : goal.returns-then-not-may_follow
 returns-then-not-may_follow c =

@@ -2,7 +2,7 @@ use Rattle.std.proofs.Common.{◌≡◌, ◌∙◌, ap, pos, ◌+ℤ◌, rules, 
 use Rattle.std.specs.Int.{w128}
 use Rattle.std.proofs.lemmas.Int.{to_z-of_z, to_z_pos}
 use Rattle.lop_cuts.specs.Lagrangian.{right_sides}
-use Rattle.lop_certtext.specs.LeafLine.{terms_of, terms_in}
+use Rattle.lop_certtext.specs.RecordLine.{terms_of, terms_in}
 use Rattle.lop_cuts.specs.Charges.{HasCharges}
 use Rattle.lop_check.proofs.Reduced.{whole_value, fits_wide}
 use Rattle.lop_check.proofs.upper.upper.Goals as goal

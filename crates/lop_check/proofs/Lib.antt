@@ -8,6 +8,7 @@ pub mod PathLemmas
 pub mod CutLines
 pub mod Charging
 pub mod Reduced
+pub mod RecordLemmas
 pub mod NodeLemmas
 pub mod Results
 pub mod TreeWalk

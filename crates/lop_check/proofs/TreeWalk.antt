@@ -7,10 +7,11 @@ use Rattle.lop_cuts.specs.declared.kind.CutKind.{CutKind}
 use Rattle.lop_certtext.specs.declared.reason.Reason.{Reason}
 use Rattle.lop_certtext.specs.declared.word.CertWord.{CertWord}
 use Rattle.lop_certtext.specs.declared.version.CertVersion.{CertVersion}
+use Rattle.lop_certtext.specs.declared.version.CertVersion.TheVariants.{Two}
 use Rattle.lop_certtext.specs.Line.{CertLine}
-use Rattle.lop_certtext.specs.RecordLine.{CertRecord}
+use Rattle.lop_certtext.specs.RecordLine.{CertRecord, leaf_of}
 use Rattle.lop_model.specs.Closing.{closed}
-use Rattle.lop_certtext.specs.Answer.{TextLine, ended_line, unended_line, long_line, long_file, CheckAnswer, rejected, spelled, node_step, tree_step, cut_step, cuts_left_step, records_step}
+use Rattle.lop_certtext.specs.Answer.{TextLine, ended_line, unended_line, long_line, long_file, CheckAnswer, rejected, spelled, node_step, tree_step, cut_step, cuts_left_step, records_step, records_left_step}
 use Rattle.lop_check.specs.declared.verdict.Verdict.{Verdict}
 use Rattle.lop_check.specs.declared.verdict.Verdict.TheVariants as verdict
 use Rattle.lop_check.specs.TreePlace.{TreePlace, pending, pending_if}
@@ -125,3 +126,26 @@ pub none_yet : (C : Matrix) (version : CertVersion) (value bound : ℤ) (told co
 none_yet C version value bound told count number cuts lines is none =
     let all : told ≡ count - length cuts = omega (arith, is, ap length none) in
     ap (λ (k : ℕ). cuts_left_step closed C version value bound k [] number lines) all ∙ ap (λ (l : List CutKind). cuts_left_step closed C version value bound (count - length cuts) l number lines) (sym none)
+
+-- ---- records
+
+-- so many records less one, where one is due
+pub records_due : (C : Matrix) (cuts : List CutKind) (value bound : ℤ) (count : ℕ) (records : List CertRecord) (number : ℕ) (lines : List TextLine) → length records < count
+    → records_left_step closed C cuts value bound (count - length records) records number lines ≡ records_left_step closed C cuts value bound (suc (count - (length records + 1))) records number lines
+records_due C cuts value bound count records number lines less =
+    let one : count - length records ≡ suc (count - (length records + 1)) = omega arith in
+    ap (λ (k : ℕ). records_left_step closed C cuts value bound k records number lines) one
+
+-- all records are there
+pub no_record_left : (C : Matrix) (cuts : List CutKind) (value bound : ℤ) (count : ℕ) (records : List CertRecord) (number : ℕ) (lines : List TextLine) → count ≤ length records
+    → records_left_step closed C cuts value bound (count - length records) records number lines ≡ tree_step closed C cuts (leaf_of Two (length cuts) records) value bound ([] ∷ []) number lines
+no_record_left C cuts value bound count records number lines all =
+    let none : count - length records ≡ 0 = omega arith in
+    ap (λ (k : ℕ). records_left_step closed C cuts value bound k records number lines) none
+
+-- no record is there yet
+pub no_record_yet : (C : Matrix) (cuts : List CutKind) (value bound : ℤ) (told count number : ℕ) (records : List CertRecord) (lines : List TextLine) → count ≡ told → records ≡ []
+    → records_left_step closed C cuts value bound told [] number lines ≡ records_left_step closed C cuts value bound (count - length records) records number lines
+no_record_yet C cuts value bound told count number records lines is none =
+    let all : told ≡ count - length records = omega (arith, is, ap length none) in
+    ap (λ (k : ℕ). records_left_step closed C cuts value bound k [] number lines) all ∙ ap (λ (l : List CertRecord). records_left_step closed C cuts value bound (count - length records) l number lines) (sym none)

@@ -1,4 +1,4 @@
-use Rattle.std.proofs.Common.{ℕ, ℤ, w64, FitsSigned, sym, subst}
+use Rattle.std.proofs.Common.{ℕ, ℤ, w64, FitsSigned, rules, sym, subst}
 use Rattle.std.proofs.lemmas.Int.{to_z-of_z}
 use Rattle.lop_certtext.specs.declared.word.CertWord.{CertWord}
 use Rattle.lop_certtext.specs.declared.word.CertWord.TheVariants as words
@@ -9,13 +9,13 @@ pub returns-in-SplitLine : goal.returns-in-SplitLine
 returns-in-SplitLine c =
     let C = c.args.weights.now in
     let old = c.args.proof.now in
-    subst (λ (w : CertWord). TakesLine C.size old c.split_step.new.proof (node_test C old c.args.bound w c.args.numbers.now) c.split_step.result) (sym c.in-SplitLine.is)
+    subst (λ (w : CertWord). TakesLine C.size old c.split_step.new.proof (node_test C old c.args.claim.version c.args.claim.bound w c.args.numbers.now) c.split_step.result) (sym c.in-SplitLine.is)
     (subst (λ (n : ℕ). TakesLine n old c.split_step.new.proof (split_test n old c.args.numbers.now) c.split_step.result) c.n.ensures.size c.split_step.ensures)
 
 pub returns-in-Leaf : goal.returns-in-Leaf
 returns-in-Leaf c =
     let C = c.args.weights.now in
     let old = c.args.proof.now in
-    let fits : FitsSigned w64 c.args.bound = c.ranges.bound in
-    subst (λ (w : CertWord). TakesLine C.size old c.leaf_step.new.proof (node_test C old c.args.bound w c.args.numbers.now) c.leaf_step.result) (sym c.in-Leaf.is)
-    (subst (λ (b : ℤ). TakesLine C.size old c.leaf_step.new.proof (node_test C old b words.Leaf c.args.numbers.now) c.leaf_step.result) (to_z-of_z w64 c.args.bound fits) c.leaf_step.ensures)
+    let fits : FitsSigned w64 c.args.claim.bound = search rules in
+    subst (λ (w : CertWord). TakesLine C.size old c.leaf_step.new.proof (node_test C old c.args.claim.version c.args.claim.bound w c.args.numbers.now) c.leaf_step.result) (sym c.in-Leaf.is)
+    (subst (λ (b : ℤ). TakesLine C.size old c.leaf_step.new.proof (node_test C old c.args.claim.version b words.Leaf c.args.numbers.now) c.leaf_step.result) (to_z-of_z w64 c.args.claim.bound fits) c.leaf_step.ensures)

@@ -15,7 +15,8 @@ pub returns-in-Some : goal.returns-in-Some
 returns-in-Some c =
     let at = place c.args.proof.now.walk in
     record {
-      kept = record { cuts = c.requires.cuts; walk = c.enter.ensures.walk; size = c.enter.ensures.size ∙ c.requires.size; square = c.requires.square };
+      kept = record { cuts = c.requires.cuts; records = c.requires.records; walk = c.enter.ensures.walk; size = c.enter.ensures.size ∙ c.requires.size; square = c.requires.square };
       cuts = refl;
+      records = refl;
       answer = λ number next. ap (λ (o : Option Pair). split_step at.path at.others number o next) c.in-Some.ensures ∙ ap (λ p. next (pending p)) (sym c.enter.ensures.at);
     }

@@ -32,9 +32,9 @@ says_answer C bytes Memory e = tt
 
 text_accepted : (C : Matrix) (bytes : List ℕ) (v b : ℤ) → IsWeights C → IsCertificateText C bytes v b → IsCheckAnswer C bytes (accepted v b)
 text_accepted C bytes v b weights t =
-    let there = IsCheckAnswer-certificate_text C weights t.certificate t.holds (subst (λ (l : List ℕ). length l ≤ 2 ^ 40) t.text t.fits) in
+    let there = IsCheckAnswer-certificate_text C weights t.certificate t.holds t.version t.has_text (subst (λ (l : List ℕ). length l ≤ 2 ^ 40) t.text t.fits) in
     let same : accepted t.certificate.value t.certificate.bound ≡ accepted v b = ap (λ (x : ℤ). accepted x t.certificate.bound) t.value_is ∙ ap (λ (y : ℤ). accepted v y) t.bound_is in
-    subst (λ (l : List ℕ). IsCheckAnswer C l (accepted v b)) (sym t.text) (subst (λ (a : CheckAnswer). IsCheckAnswer C (certificate_text t.certificate) a) same there)
+    subst (λ (l : List ℕ). IsCheckAnswer C l (accepted v b)) (sym t.text) (subst (λ (a : CheckAnswer). IsCheckAnswer C (certificate_text t.version t.certificate) a) same there)
 
 pub exact : (C : Matrix) (bytes : List ℕ) (verdict : Verdict) → IsWeights C → IsVerdict (IsCheckAnswer C bytes) verdict → IsExact C bytes verdict
 exact C bytes (Accepted value bound) weights e = IsCertificateText-IsCheckAnswer C bytes value bound e

@@ -1,10 +1,12 @@
 -- What a line of the tree does to the pending paths.
-use Rattle.std.proofs.Common.{◌≡◌, ℕ, suc, ◌+◌, ◌*◌, ◌<◌, ◌≤◌, Bool, true, false, cond, ◌&&◌, List, [], ◌∷◌, length, drop, drop-cons, get_or, nat_abs, ℤ, pos, ◌≤ℤ◌, ◌<ℤ◌, Option, None, Some, refl, sym, ◌∙◌, ap, arith}
+use Rattle.std.proofs.Common.{◌≡◌, ℕ, suc, ◌+◌, ◌*◌, ◌<◌, ◌≤◌, Bool, true, false, cond, ◌&&◌, eqb, List, [], ◌∷◌, length, drop, drop-cons, get_or, nat_abs, ℤ, pos, ◌≤ℤ◌, ◌<ℤ◌, Option, None, Some, refl, sym, ◌∙◌, ap, arith}
 use Rattle.std.specs.Prelude.{int_lt, nat_lt, nat_le}
 use Rattle.std.proofs.lemmas.Int.{ints}
+use Rattle.std.proofs.lemmas.Bool.{and_parts, eqb-true, leb-true}
+use Rattle.lop_certtext.specs.declared.limits.TheConstants.{MAX_SCALE, MAX_TERMS}
 use Rattle.std.proofs.lemmas.List.{drop_all}
 use Rattle.lop_certtext.specs.RecordLine.{CertRecord, are_rising, terms_of, is_record_row, record_of}
-use Rattle.lop_check.specs.Records.{follows}
+use Rattle.lop_check.specs.Records.{IsRow, follows}
 
 -- ---- terms in turn
 
@@ -31,10 +33,31 @@ two_front [] h = absurd (omega arith)
 two_front (a ∷ []) h = absurd (omega arith)
 two_front (a ∷ b ∷ xs) h = refl
 
+pub one_front : (xs : List ℤ) → 1 ≤ length xs → length xs < 2 → xs ≡ get_or xs 0 (pos 0) ∷ []
+one_front [] h k = absurd (omega arith)
+one_front (a ∷ []) h k = refl
+one_front (a ∷ b ∷ xs) h k = absurd (omega arith)
+
 pub leaf_read : (count : ℕ) (xs : List ℤ) → 2 ≤ length xs → is_record_row count (nat_abs (get_or xs 0 (pos 0))) (nat_abs (get_or xs 1 (pos 0))) (drop 2 xs) ≡ true → record_of count xs ≡ Some (record { scale = nat_abs (get_or xs 0 (pos 0)); terms = terms_of (drop 2 xs) })
 leaf_read count [] h e = absurd (omega arith)
 leaf_read count (a ∷ []) h e = absurd (omega arith)
 leaf_read count (a ∷ b ∷ xs) h e = ap (λ (t : Bool). cond {A = Option CertRecord} t (Some (record { scale = nat_abs a; terms = terms_of xs })) None) e
+
+-- such numbers are a record
+pub row_is : (count : ℕ) (xs : List ℤ) → 2 ≤ length xs → is_record_row count (nat_abs (get_or xs 0 (pos 0))) (nat_abs (get_or xs 1 (pos 0))) (drop 2 xs) ≡ true → IsRow count xs (nat_abs (get_or xs 0 (pos 0))) (drop 2 xs)
+row_is count xs h e =
+    let s : ℕ = nat_abs (get_or xs 0 (pos 0)) in
+    let t : ℕ = nat_abs (get_or xs 1 (pos 0)) in
+    let ns = drop 2 xs in
+    let first = and_parts (nat_le 1 s && nat_le s MAX_SCALE && nat_le t MAX_TERMS && eqb (length ns) (2 * t)) (are_rising 0 count (terms_of ns)) e in
+    let second = and_parts (nat_le 1 s && nat_le s MAX_SCALE && nat_le t MAX_TERMS) (eqb (length ns) (2 * t)) first.0 in
+    let third = and_parts (nat_le 1 s && nat_le s MAX_SCALE) (nat_le t MAX_TERMS) second.0 in
+    let fourth = and_parts (nat_le 1 s) (nat_le s MAX_SCALE) third.0 in
+    record {
+      read = leaf_read count xs h e;
+      within_limit = leb-true s MAX_SCALE fourth.1;
+      are_terms = record { told = t; few = leb-true t MAX_TERMS third.1; even = eqb-true (length ns) (2 * t) second.1; rising = first.1 };
+    }
 
 pub leaf_not : (count : ℕ) (xs : List ℤ) → 2 ≤ length xs → is_record_row count (nat_abs (get_or xs 0 (pos 0))) (nat_abs (get_or xs 1 (pos 0))) (drop 2 xs) ≡ false → record_of count xs ≡ None
 leaf_not count [] h e = absurd (omega arith)

@@ -1,11 +1,16 @@
 -- The list of records: the numbers of their terms lie one after another.
-use Rattle.std.proofs.Common.{◌≡◌, ℕ, suc, ◌+◌, ◌-◌, ◌*◌, ◌≤◌, ◌<◌, Bool, true, false, cond, ◌&&◌, List, [], ◌∷◌, ◌++◌, length, take, drop, map, ℤ, nat_abs, get_or, pos, Option, None, Some, refl, sym, ◌∙◌, ap, subst, arith}
+use Rattle.std.proofs.Common.{◌≡◌, ℕ, suc, ◌+◌, ◌-◌, ◌*◌, ◌/◌, ◌≤◌, ◌<◌, Bool, true, false, cond, ◌&&◌, List, [], ◌∷◌, ◌++◌, length, take, drop, map, ℤ, nat_abs, get_or, pos, Option, None, Some, Ok, Err, refl, sym, ◌∙◌, ap, subst, arith}
 use Rattle.std.specs.List.{All}
-use Rattle.std.specs.Prelude.{nat_le}
-use Rattle.std.proofs.lemmas.List.{take-append-le, drop-append-le, length-drop, map_push, take_all, drop_at}
-use Rattle.lop_certtext.specs.RecordLine.{CertRecord, are_rising, terms_of, named_of, numbered_record}
+use Rattle.std.specs.Prelude.{nat_le, Result, OnOk, OnErr}
+use Rattle.std.specs.Result.{is_ok}
+use Rattle.std.proofs.lemmas.Bool.{false≢true}
+use Rattle.std.proofs.lemmas.List.Elements.{All-push}
+use Rattle.std.proofs.lemmas.List.{take-append-le, drop-append-le, length-drop, length-append, map_push, take_all, drop_at}
+use Rattle.lop_certtext.specs.declared.limits.TheConstants.{MAX_TOTAL_TERMS}
+use Rattle.lop_certtext.specs.RecordLine.{CertRecord, are_rising, term_count, terms_of, named_of, numbered_record}
+use Rattle.lop_certtext.proofs.AcceptedText.{term_count-more}
 use Rattle.lop_check.specs.declared.record_list.Span.{Span}
-use Rattle.lop_check.specs.Records.{AreTerms, IsPlace, IsRecordOver, IsWithin, is_number, record_at, record_in}
+use Rattle.lop_check.specs.Records.{AreSpans, AreTerms, IsPlace, IsRecordOver, IsRow, IsWithin, is_number, record_at, record_in}
 use Rattle.lop_check.proofs.Charging.{length-terms_of}
 
 -- more numbers behind them don't change a record
@@ -14,7 +19,7 @@ record_in-more numbers more span within =
     let front : take (span.end - span.start) (drop span.start numbers ++ more) ≡ take (span.end - span.start) (drop span.start numbers) = take-append-le (span.end - span.start) (drop span.start numbers) more (omega (arith, within.even, within.end, length-drop span.start numbers)) in
     ap (λ (l : List ℤ). record { scale = span.scale; terms = terms_of l }) (ap (take (span.end - span.start)) (drop-append-le span.start numbers more (omega (arith, within.even, within.end))) ∙ front)
 
-records-more : (numbers more : List ℤ) (spans : List Span) → All (IsWithin (length numbers)) spans → map (record_in (numbers ++ more)) spans ≡ map (record_in numbers) spans
+pub records-more : (numbers more : List ℤ) (spans : List Span) → All (IsWithin (length numbers)) spans → map (record_in (numbers ++ more)) spans ≡ map (record_in numbers) spans
 records-more numbers more [] within = refl
 records-more numbers more (span ∷ spans) within =
     ap (λ (r : CertRecord). r ∷ map (record_in (numbers ++ more)) spans) (record_in-more numbers more span (within 0 span (omega arith)))
@@ -28,6 +33,45 @@ records-push numbers more spans span within start end =
     map_push (record_in (numbers ++ more)) spans span
     ∙ ap (λ (rs : List CertRecord). rs ++ record_in (numbers ++ more) span ∷ []) (records-more numbers more spans within)
     ∙ ap (λ (l : List ℤ). map (record_in numbers) spans ++ record { scale = span.scale; terms = terms_of l } ∷ []) all
+
+-- the list keeps its invariant where numbers are behind it that no record has yet
+pub AreSpans-more : (numbers more : List ℤ) (spans : List Span) (terms : ℕ) → AreSpans numbers spans terms → AreSpans (numbers ++ more) spans terms
+AreSpans-more numbers more spans terms is = record {
+  within = λ k d low. let w = is.within k d low in record { terms = w.terms; even = w.even; end = omega (arith, w.end, length-append numbers more) };
+  terms_sum = is.terms_sum ∙ ap term_count (sym (records-more numbers more spans is.within));
+  few = is.few;
+}
+
+-- and where a record has them
+pub AreSpans-push : (numbers more : List ℤ) (spans : List Span) (span : Span) (terms t : ℕ) → AreSpans numbers spans terms → span.start ≡ length numbers → span.end ≡ length numbers + length more → length more ≡ 2 * t → terms + t ≤ MAX_TOTAL_TERMS
+    → AreSpans (numbers ++ more) (spans ++ span ∷ []) (terms + t)
+AreSpans-push numbers more spans span terms t is start end even few =
+    let r : CertRecord = record { scale = span.scale; terms = terms_of more } in
+    record {
+      within = All-push (IsWithin (length (numbers ++ more))) spans span (AreSpans-more numbers more spans terms is).within (record { terms = t; even = omega (arith, start, end, even); end = omega (arith, end, length-append numbers more) });
+      terms_sum = ap (λ (k : ℕ). k + t) is.terms_sum
+          ∙ ap (λ (k : ℕ). term_count (map (record_in numbers) spans) + k) (sym (length-terms_of more t even))
+          ∙ sym (term_count-more (map (record_in numbers) spans) r)
+          ∙ ap term_count (sym (records-push numbers more spans span is.within start end));
+      few = few;
+    }
+
+-- what holds on success and on failure
+pub if_ok : {X E : Type 0} (r : Result X E) (P : Type 0) → is_ok r ≡ true → OnOk r P → P
+if_ok (Ok x) P e h = h
+if_ok (Err y) P e h = absurd (false≢true e)
+
+pub if_err : {X E : Type 0} (r : Result X E) (P : Type 0) → is_ok r ≡ false → OnErr r P → P
+if_err (Ok x) P e h = absurd (false≢true (sym e))
+if_err (Err y) P e h = h
+
+pub on_err : {X E : Type 0} (r : Result X E) (P : Type 0) → P → OnErr r P
+on_err (Ok x) P h = tt
+on_err (Err y) P h = h
+
+-- how many terms the numbers of a row are
+pub row_terms : (count : ℕ) (ns : List ℤ) (scale : ℕ) (terms : List ℤ) → IsRow count ns scale terms → length terms / 2 ≡ length (terms_of terms)
+row_terms count ns scale terms row = omega (arith, row.are_terms.even, length-terms_of terms row.are_terms.told row.are_terms.even)
 
 -- the numbers of a right record's terms are terms
 pub terms_over : (count : ℕ) (r : CertRecord) (ns : List ℤ) (t : ℕ) → IsRecordOver count r → length ns ≡ 2 * t → terms_of ns ≡ r.terms → AreTerms count ns
@@ -45,4 +89,4 @@ named_one records n place at =
     ∙ ap (λ (k : ℕ). Some (record_at records k)) (sym at.place_is)
 
 pub named_none : (records : List CertRecord) (n : ℤ) → is_number records (nat_abs n) ≡ false → named_of records (n ∷ []) ≡ None
-named_none records n no = ap (λ (t : Bool). cond {A = Option CertRecord} t (Some (numbered_record records (nat_abs n))) None) no
+named_none records n none = ap (λ (t : Bool). cond {A = Option CertRecord} t (Some (numbered_record records (nat_abs n))) None) none

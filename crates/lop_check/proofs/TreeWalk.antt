@@ -1,17 +1,23 @@
 -- The walk over the lines of the cuts and of the tree.
-use Rattle.std.proofs.Common.{◌≡◌, ℕ, suc, ◌+◌, ◌-◌, ◌<◌, ◌≤◌, Bool, true, false, List, [], ◌∷◌, ◌++◌, length, ℤ, Option, refl, sym, ◌∙◌, ap, subst, arith}
+use Rattle.std.proofs.Common.{◌≡◌, ℕ, suc, ◌+◌, ◌-◌, ◌<◌, ◌≤◌, Bool, true, false, cond, List, [], ◌∷◌, ◌++◌, length, ℤ, Option, None, Some, refl, sym, ◌∙◌, ap, subst, arith}
+use Rattle.std.specs.Prelude.{nat_le}
+use Rattle.std.proofs.lemmas.Bool.{false≢true}
 use Rattle.std.proofs.lemmas.List.{length_push}
 use Rattle.lop_model.specs.declared.pair.Pair.{Pair}
 use Rattle.lop_model.specs.Matrix.{Matrix}
 use Rattle.lop_cuts.specs.declared.kind.CutKind.{CutKind}
 use Rattle.lop_certtext.specs.declared.reason.Reason.{Reason}
+use Rattle.lop_certtext.specs.declared.reason.Reason.TheVariants as reason
 use Rattle.lop_certtext.specs.declared.word.CertWord.{CertWord}
 use Rattle.lop_certtext.specs.declared.version.CertVersion.{CertVersion}
-use Rattle.lop_certtext.specs.declared.version.CertVersion.TheVariants.{Two}
+use Rattle.lop_certtext.specs.declared.version.CertVersion.TheVariants.{One, Two}
+use Rattle.lop_certtext.specs.contracts.version.CertVersion.{the_type}
+use denote.Enum.Bare.{sameb}
+use Rattle.lop_certtext.specs.declared.limits.TheConstants.{MAX_TOTAL_TERMS}
 use Rattle.lop_certtext.specs.Line.{CertLine}
-use Rattle.lop_certtext.specs.RecordLine.{CertRecord, leaf_of}
+use Rattle.lop_certtext.specs.RecordLine.{CertRecord, if_within, leaf_of, record_of, term_count}
 use Rattle.lop_model.specs.Closing.{closed}
-use Rattle.lop_certtext.specs.Answer.{TextLine, ended_line, unended_line, long_line, long_file, CheckAnswer, rejected, spelled, node_step, tree_step, cut_step, cuts_left_step, records_step, records_left_step}
+use Rattle.lop_certtext.specs.Answer.{TextLine, ended_line, unended_line, long_line, long_file, CheckAnswer, rejected, spelled, node_step, tree_step, cut_step, cuts_left_step, with_record, records_step, records_left_step}
 use Rattle.lop_check.specs.declared.verdict.Verdict.{Verdict}
 use Rattle.lop_check.specs.declared.verdict.Verdict.TheVariants as verdict
 use Rattle.lop_check.specs.TreePlace.{TreePlace, pending, pending_if}
@@ -149,3 +155,36 @@ pub no_record_yet : (C : Matrix) (cuts : List CutKind) (value bound : ℤ) (told
 no_record_yet C cuts value bound told count number records lines is none =
     let all : told ≡ count - length records = omega (arith, is, ap length none) in
     ap (λ (k : ℕ). records_left_step closed C cuts value bound k [] number lines) all ∙ ap (λ (l : List CertRecord). records_left_step closed C cuts value bound (count - length records) l number lines) (sym none)
+
+-- the line of a record, and then so many less
+abbrev pub record_next : Matrix → List CutKind → ℤ → ℤ → ℕ → List CertRecord → ℕ → List ℤ → List TextLine → CheckAnswer
+record_next C cuts value bound more records number numbers rest =
+    with_record number (if_within records (record_of (length cuts) numbers)) (λ r. records_left_step closed C cuts value bound more (records ++ r ∷ []) (number + 1) rest)
+
+-- its numbers are no record
+pub record_not : (C : Matrix) (cuts : List CutKind) (value bound : ℤ) (more : ℕ) (records : List CertRecord) (number : ℕ) (numbers : List ℤ) (rest : List TextLine) → record_of (length cuts) numbers ≡ None → record_next C cuts value bound more records number numbers rest ≡ rejected number reason.RecordLine
+record_not C cuts value bound more records number numbers rest e =
+    ap (λ (o : Option CertRecord). with_record number (if_within records o) (λ r. records_left_step closed C cuts value bound more (records ++ r ∷ []) (number + 1) rest)) e
+
+-- there are too many terms with it
+pub record_over : (C : Matrix) (cuts : List CutKind) (value bound : ℤ) (more : ℕ) (records : List CertRecord) (number : ℕ) (numbers : List ℤ) (r : CertRecord) (rest : List TextLine) → record_of (length cuts) numbers ≡ Some r → nat_le (term_count records + length r.terms) MAX_TOTAL_TERMS ≡ false → record_next C cuts value bound more records number numbers rest ≡ rejected number reason.RecordLine
+record_over C cuts value bound more records number numbers r rest e over =
+    ap (λ (o : Option CertRecord). with_record number (if_within records o) (λ x. records_left_step closed C cuts value bound more (records ++ x ∷ []) (number + 1) rest)) e
+    ∙ ap (λ (t : Bool). with_record number (cond {A = Option CertRecord} t (Some r) None) (λ x. records_left_step closed C cuts value bound more (records ++ x ∷ []) (number + 1) rest)) over
+
+-- the list has it from then on
+pub record_more : (C : Matrix) (cuts : List CutKind) (value bound : ℤ) (more : ℕ) (records pushed : List CertRecord) (number : ℕ) (numbers : List ℤ) (r : CertRecord) (rest : List TextLine) → record_of (length cuts) numbers ≡ Some r → nat_le (term_count records + length r.terms) MAX_TOTAL_TERMS ≡ true → pushed ≡ records ++ r ∷ [] → record_next C cuts value bound more records number numbers rest ≡ records_left_step closed C cuts value bound more pushed (number + 1) rest
+record_more C cuts value bound more records pushed number numbers r rest e within is =
+    ap (λ (o : Option CertRecord). with_record number (if_within records o) (λ x. records_left_step closed C cuts value bound more (records ++ x ∷ []) (number + 1) rest)) e
+    ∙ ap (λ (t : Bool). with_record number (cond {A = Option CertRecord} t (Some r) None) (λ x. records_left_step closed C cuts value bound more (records ++ x ∷ []) (number + 1) rest)) within
+    ∙ ap (λ (l : List CertRecord). records_left_step closed C cuts value bound more l (number + 1) rest) (sym is)
+
+-- ---- versions
+
+pub is_one : (v : CertVersion) (found : Bool) → found ≡ sameb the_type v One → found ≡ true → v ≡ One
+is_one One found is so = refl
+is_one Two found is so = absurd (false≢true (sym is ∙ so))
+
+pub is_two : (v : CertVersion) (found : Bool) → found ≡ sameb the_type v One → found ≡ false → v ≡ Two
+is_two One found is so = absurd (false≢true (sym so ∙ is))
+is_two Two found is so = refl

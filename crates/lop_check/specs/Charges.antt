@@ -1,5 +1,6 @@
 -- Tables of charges, and reduced entries by them.
 use Rattle.std.specs.Prelude.{◌≡◌, ◌≤◌, ◌<◌, ◌+◌, ◌*◌, ◌^◌, ℕ, List, length, ℤ, pos, ◌-ℤ◌, ◌*ℤ◌}
+use Rattle.lop_model.specs.declared.weights.TheConstants.{MAX_OBJECTS}
 use Rattle.lop_model.specs.declared.pair.Pair.{Pair}
 use Rattle.lop_model.specs.Matrix.{Matrix, entry}
 use Rattle.lop_model.specs.Cells.{cell}
@@ -7,7 +8,7 @@ use Rattle.lop_cuts.specs.Charges.{arc_count}
 
 -- a table of n objects, with no charge above 2^100
 pub record IsTable (n : ℕ) (t : List ℕ) : Type 0 where
-  pub within_limit : n ≤ 512
+  pub within_limit : n ≤ MAX_OBJECTS
   pub square : length t ≡ n * n
   pub bounded : (a b : ℕ) → a < n → b < n → cell t n a b ≤ 2 ^ 100
 

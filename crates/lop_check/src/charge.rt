@@ -3,6 +3,7 @@ ghost use Rattle.std.specs.Prelude.{◌≡◌, ◌≤◌, ◌<◌, ◌+◌, ◌-
 ghost use Rattle.lop_cuts.specs.Kind.{FitsCut, IsArcBelow, arcs_of, right_side_of};
 ghost use Rattle.lop_cuts.specs.Lagrangian.{right_sides};
 ghost use Rattle.lop_certtext.specs.RecordLine.{are_rising, terms_of, terms_in};
+ghost use Rattle.lop_model.specs.declared.weights.TheConstants.{MAX_OBJECTS};
 ghost use Rattle.lop_model.specs.Cells.{cell};
 ghost use Rattle.lop_cuts.specs.Charges.{HasCharges};
 ghost use Rattle.lop_check.specs.Charges.{AddsCharges, AreSmall, IsTable};
@@ -61,7 +62,7 @@ fn charge_term(cut: &Cut, multiplier: u64, charges: &mut [u128], n: usize) -> u1
 // Adds each term's multiplier at the arcs of its cut, and answers the multiplied right sides, added up. O(arcs of
 // all terms).
 pub fn charge_terms(cuts: &[Cut], numbers: &[i64], charges: &mut [u128], n: usize) -> u128
-    requires within_limit { n ≤ 512 }
+    requires within_limit { n ≤ MAX_OBJECTS }
     requires cuts { AreRightCuts n cuts.now }
     requires terms { AreTerms (length cuts.now) numbers.now }
     requires none { HasCharges n [] charges.old }

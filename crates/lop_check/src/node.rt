@@ -1,5 +1,6 @@
 // A line of the tree: a split goes down, and a leaf goes on to the next subtree.
 ghost use Rattle.std.specs.Prelude.{◌≡◌, ◌≤◌, pos, ◌+ℤ◌, ◌*ℤ◌, length, IfOk, MatchOption, Some, None};
+ghost use Rattle.lop_certtext.specs.declared.limits.TheConstants.{MAX_SCALE};
 ghost use Rattle.lop_certtext.specs.RecordLine.{record_of, named_of, leaf_of};
 ghost use Rattle.lop_certtext.specs.declared.word.CertWord.TheVariants as words;
 ghost use Rattle.lop_certtext.specs.Answer.{split_of};
@@ -125,7 +126,7 @@ fn leaf_step(
     requires { IsProof weights.now.size proof.old }
     ensures { TakesLine weights.now.size proof.old proof.new (node_test weights.now proof.old claim.version claim.bound words.Leaf numbers.now) result }
 {
-    match shown(weights, proof, claim.version, numbers) {
+    match shown_by_leaf(weights, proof, claim.version, numbers) {
         Some(shown) => {
             let upper = shown.upper;
             let limit = limit_of(shown.scale, claim.bound);
@@ -140,7 +141,7 @@ fn leaf_step(
 }
 
 // What the leaf's record gives: in version 1 the line has it, in version 2 the line has its number.
-fn shown(
+fn shown_by_leaf(
     weights: &Weights,
     proof: &mut Proof,
     version: CertVersion,
@@ -197,7 +198,7 @@ fn shown_by_line(weights: &Weights, proof: &mut Proof, numbers: &[i64]) -> Optio
 
 // What the number U has to be below: the scale times the bound and one.
 fn limit_of(scale: u32, bound: i64) -> i128
-    requires { scale ≤ 65536 }
+    requires { scale ≤ MAX_SCALE }
     ensures { result ≡ pos scale *ℤ (bound +ℤ pos 1) }
 {
     i128::from(scale) * (i128::from(bound) + 1)

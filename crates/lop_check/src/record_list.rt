@@ -1,7 +1,7 @@
 // The records that leaves name.
-ghost use Rattle.std.specs.Prelude.{◌≡◌, ◌≤◌, ◌<◌, ◌+◌, ◌*◌, ◌++◌, ◌∷◌, [], ℕ, false, length, nat_abs, nat_le, MatchOption, OnOk};
+ghost use Rattle.std.specs.Prelude.{◌≡◌, ◌≤◌, ◌<◌, ◌+◌, ◌*◌, ◌++◌, ◌∷◌, [], ℕ, false, length, nat_abs, nat_le, MatchOption, OnOk, OnErr};
 ghost use Rattle.lop_certtext.specs.RecordLine.{term_count, terms_of};
-ghost use Rattle.lop_certtext.specs.declared.limits.TheConstants.{MAX_TOTAL_TERMS};
+ghost use Rattle.lop_certtext.specs.declared.limits.TheConstants.{MAX_TERMS, MAX_TOTAL_TERMS};
 ghost use Rattle.lop_check.specs.Records.{IsPlace, is_number, record_at};
 
 use lop_certtext::MAX_TOTAL_TERMS;
@@ -67,17 +67,18 @@ impl RecordList {
 
     // Whether so many terms more are within the limit of all records.
     pub fn has_room(&self, terms: usize) -> bool
-        requires { terms ≤ 65536 }
+        requires { terms ≤ MAX_TERMS }
         ensures { result ≡ nat_le (term_count self.now + terms) MAX_TOTAL_TERMS }
     {
         self.terms + terms as u64 <= u64::from(MAX_TOTAL_TERMS)
     }
 
-    // One record more. Room for it is taken as it comes.
+    // One record more. Room for it is taken as it comes; where there is none the list stays as it was.
     pub fn push(&mut self, scale: u32, numbers: &[i64]) -> Result<(), AllocError>
         requires even { (t : ℕ) × (length numbers.now ≡ 2 * t) }
         requires room { term_count self.old + length (terms_of numbers.now) ≤ MAX_TOTAL_TERMS }
-        ensures { OnOk result (self.new ≡ self.old ++ record { scale = scale; terms = terms_of numbers.now } ∷ []) }
+        ensures pushed { OnOk result (self.new ≡ self.old ++ record { scale = scale; terms = terms_of numbers.now } ∷ []) }
+        ensures unchanged { OnErr result (self.new ≡ self.old) }
     {
         let start = self.numbers.len();
         self.numbers.extend_from_slice(numbers)?;

@@ -2,6 +2,7 @@
 ghost use Rattle.std.specs.Prelude.{◌≡◌, ◌≤◌, ◌<◌, ◌*◌, ◌^◌, length, pos, neg_ℤ, ◌≤ℤ◌};
 ghost use Rattle.lop_model.specs.Sums.{pair_sum};
 ghost use Rattle.lop_cuts.specs.Lagrangian.{lagrangian_value};
+ghost use Rattle.lop_certtext.specs.declared.limits.TheConstants.{MAX_SCALE};
 ghost use Rattle.lop_certtext.specs.RecordLine.{terms_of, terms_in};
 ghost use Rattle.lop_check.specs.Charges.{AreSmall, table_entry};
 ghost use Rattle.lop_check.specs.Nodes.{AreRightCuts};
@@ -17,7 +18,7 @@ use lop_model::Weights;
 fn reduced_at(weights: &Weights, scale: u32, charges: &[u128], a: u16, b: u16) -> i128
     requires first { a < weights.now.size }
     requires second { b < weights.now.size }
-    requires scale { scale ≤ 65536 }
+    requires scale { scale ≤ MAX_SCALE }
     requires small { AreSmall weights.now.size charges.now }
     ensures value { result ≡ table_entry weights.now scale charges.now a b }
     ensures low { neg_ℤ (pos (2 ^ 80)) ≤ℤ result }
@@ -31,7 +32,7 @@ fn reduced_at(weights: &Weights, scale: u32, charges: &[u128], a: u16, b: u16) -
 fn value_at(weights: &Weights, trail: &Trail, scale: u32, charges: &[u128], i: u16, j: u16) -> i128
     requires first { i < weights.now.size }
     requires second { j < weights.now.size }
-    requires scale { scale ≤ 65536 }
+    requires scale { scale ≤ MAX_SCALE }
     requires same_n { trail.now.size ≡ weights.now.size }
     requires small { AreSmall weights.now.size charges.now }
     ensures value { result ≡ pair_value trail.now.fixed (table_entry weights.now scale charges.now) i j }
@@ -49,7 +50,7 @@ fn value_at(weights: &Weights, trail: &Trail, scale: u32, charges: &[u128], i: u
 
 // What all pairs of objects give, added up. O(n²).
 fn pair_values(weights: &Weights, trail: &Trail, scale: u32, charges: &[u128]) -> i128
-    requires scale { scale ≤ 65536 }
+    requires scale { scale ≤ MAX_SCALE }
     requires same_n { trail.now.size ≡ weights.now.size }
     requires small { AreSmall weights.now.size charges.now }
     ensures sum { result ≡ pair_sum weights.now.size (pair_value trail.now.fixed (table_entry weights.now scale charges.now)) }
@@ -74,7 +75,7 @@ pub fn upper(
     scale: u32,
     numbers: &[i64],
 ) -> i128
-    requires row { (scale ≤ 65536) × AreTerms (length cuts.now) numbers.now }
+    requires row { (scale ≤ MAX_SCALE) × AreTerms (length cuts.now) numbers.now }
     requires cuts { AreRightCuts weights.now.size cuts.now }
     requires same_n { trail.now.size ≡ weights.now.size }
     requires square { length charges.old ≡ weights.now.size * weights.now.size }

@@ -1,35 +1,41 @@
-use Rattle.std.proofs.Common.{◌≡◌, ◌∙◌, ◌-◌, ap, sym, subst, rules, arith, List, ℕ, ℤ, Option, Some, true, take, drop, get_or, nat_abs, pos, length, w64, to_z, of_z, FitsSigned}
+use Rattle.std.proofs.Common.{◌≡◌, ◌∙◌, ◌+ℤ◌, ◌*ℤ◌, ◌<ℤ◌, cond, ap, sym, rules, pos, ℕ, ℤ, Bool, true, List, Option, w64, FitsSigned}
+use Rattle.std.specs.Prelude.{int_lt}
+use Rattle.std.specs.Int.{w128}
 use Rattle.std.proofs.lemmas.Int.{to_z-of_z}
-use Rattle.std.proofs.lemmas.List.{take_rest}
-use Rattle.lop_certtext.specs.RecordLine.{CertRecord, terms_of, is_leaf_row, leaf_of}
-use Rattle.lop_certtext.specs.Answer.{leaf_step}
+use Rattle.lop_model.specs.declared.pair.Pair.{Pair}
+use Rattle.lop_certtext.specs.declared.reason.Reason.TheVariants as reason
+use Rattle.lop_certtext.specs.RecordLine.{CertRecord}
+use Rattle.lop_certtext.specs.Answer.{CheckAnswer, rejected, leaf_value, leaf_limit, leaf_step}
+use Rattle.lop_check.specs.declared.path.Walk.{Walk}
 use Rattle.lop_check.specs.TreePlace.{place}
-use Rattle.lop_check.specs.Nodes.{TakesLine}
-use Rattle.lop_check.proofs.NodeLemmas.{leaf_read}
+use Rattle.lop_check.proofs.Walk.{lt_test}
+use Rattle.lop_check.proofs.NodeLemmas.{less_from_test}
 use Rattle.lop_check.proofs.node.leaf_step.Goals as goal
 
-pub returns-else-not-is_leaf_row : goal.returns-else-not-is_leaf_row
-returns-else-not-is_leaf_row c =
-    let ns = c.args.numbers.now in
+pub returns-then-upper-limit : goal.returns-then-upper-limit
+returns-then-upper-limit c =
     let C = c.args.weights.now in
     let old = c.args.proof.now in
     let cuts = old.cuts.items in
-    let s : ℤ = get_or ns 0 (pos 0) in
-    let t : ℤ = get_or ns 1 (pos 0) in
-    let fits : FitsSigned w64 c.args.bound = c.ranges.bound in
-    let fit_s : FitsSigned w64 s = search rules in
-    let fit_t : FitsSigned w64 t = search rules in
-    let count : c.len.result ≡ length cuts = omega (arith, c.len.ensures, old.cuts.ok) in
-    let test : is_leaf_row (length cuts) (nat_abs s) (nat_abs t) (drop 2 ns) ≡ true =
-    ap (λ (k : ℕ). is_leaf_row k (nat_abs s) (nat_abs t) (drop 2 ns)) (sym count)
-    ∙ ap (λ (l : List ℤ). is_leaf_row c.len.result (nat_abs s) (nat_abs t) l) (sym (take_rest ns 2))
-    ∙ ap (λ (x : ℤ). is_leaf_row c.len.result (nat_abs x) (nat_abs t) (take (length ns - 2) (drop 2 ns))) (sym (to_z-of_z w64 s fit_s))
-    ∙ ap (λ (x : ℤ). is_leaf_row c.len.result (nat_abs (to_z w64 (of_z w64 s))) (nat_abs x) (take (length ns - 2) (drop 2 ns))) (sym (to_z-of_z w64 t fit_t))
-    ∙ sym c.is_leaf_row.ensures ∙ c.if-not-is_leaf_row.false in
-    let scale : c.unsigned_abs-scale.result ≡ nat_abs s = c.unsigned_abs-scale.ensures.value ∙ ap nat_abs (to_z-of_z w64 s fit_s) in
-    let made : leaf_of (length cuts) ns ≡ Some (record { scale = c.unsigned_abs-scale.result; terms = terms_of (take (length ns - 2) (drop 2 ns)) }) =
-    leaf_read (length cuts) ns c.in-len2-up.len_at_least test
-    ∙ ap (λ (k : ℕ). Some (record { scale = k; terms = terms_of (drop 2 ns) })) (sym scale)
-    ∙ ap (λ (l : List ℤ). Some (record { scale = c.unsigned_abs-scale.result; terms = terms_of l })) (sym (take_rest ns 2)) in
-    subst (λ (o : Option CertRecord). TakesLine C.size old c.shown_step.new.proof (λ number next. leaf_step C cuts c.args.bound old.walk.trail.fixed (place old.walk).others number o next) c.shown_step.result) (sym made)
-    (subst (λ (b : ℤ). TakesLine C.size old c.shown_step.new.proof (λ number next. leaf_step C cuts b old.walk.trail.fixed (place old.walk).others number (Some (record { scale = c.unsigned_abs-scale.result; terms = terms_of (take (length ns - 2) (drop 2 ns)) })) next) c.shown_step.result) (to_z-of_z w64 c.args.bound fits) c.shown_step.ensures)
+    let G = old.walk.trail.fixed in
+    let bound = c.args.claim.bound in
+    let is = c.in-Some.ensures.answer in
+    let r = is.the_record in
+    let fits : FitsSigned w64 bound = search rules in
+    let fit_u : FitsSigned w128 c.in-Some.shown.upper = search rules in
+    let fit_l : FitsSigned w128 c.limit_of-limit.result = search rules in
+    let limit : c.limit_of-limit.result ≡ leaf_limit r bound =
+    c.limit_of-limit.ensures ∙ ap (λ (b : ℤ). pos c.in-Some.shown.scale *ℤ (b +ℤ pos 1)) (to_z-of_z w64 bound fits) ∙ ap (λ (s : ℕ). pos s *ℤ (bound +ℤ pos 1)) is.scale in
+    let test : int_lt c.in-Some.shown.upper c.limit_of-limit.result ≡ true = rw (to_z-of_z w128 c.in-Some.shown.upper fit_u, to_z-of_z w128 c.limit_of-limit.result fit_l) at c.if-upper-limit.true in
+    let less : leaf_value C cuts G r <ℤ leaf_limit r bound = less_from_test _ _ _ _ is.upper limit test in
+    let kept = c.in-Some.ensures.kept in
+    let others = (place old.walk).others in
+    record {
+      kept = record { cuts = kept.cuts; records = kept.records; walk = c.leave.ensures.walk; size = c.leave.ensures.size ∙ kept.size; square = kept.square };
+      cuts = c.in-Some.ensures.cuts;
+      records = c.in-Some.ensures.records;
+      answer = λ number (next : List (List Pair) → CheckAnswer).
+          ap (λ (o : Option CertRecord). leaf_step C cuts bound G others number o next) is.is
+          ∙ ap (λ (t : Bool). cond t (next others) (rejected number (reason.High (leaf_value C cuts G r) (leaf_limit r bound)))) (lt_test _ _ less)
+          ∙ ap next (ap (λ (w : Walk). (place w).others) (sym c.in-Some.ensures.walk) ∙ sym c.leave.ensures.next);
+    }

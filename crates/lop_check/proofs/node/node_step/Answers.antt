@@ -1,7 +1,5 @@
-use Rattle.std.proofs.Common.{ℕ, ℤ, w64, FitsSigned, rules, sym, subst}
-use Rattle.std.proofs.lemmas.Int.{to_z-of_z}
+use Rattle.std.proofs.Common.{ℕ, sym, subst}
 use Rattle.lop_certtext.specs.declared.word.CertWord.{CertWord}
-use Rattle.lop_certtext.specs.declared.word.CertWord.TheVariants as words
 use Rattle.lop_check.specs.Nodes.{node_test, split_test, TakesLine}
 use Rattle.lop_check.proofs.node.node_step.Goals as goal
 
@@ -16,6 +14,4 @@ pub returns-in-Leaf : goal.returns-in-Leaf
 returns-in-Leaf c =
     let C = c.args.weights.now in
     let old = c.args.proof.now in
-    let fits : FitsSigned w64 c.args.claim.bound = search rules in
-    subst (λ (w : CertWord). TakesLine C.size old c.leaf_step.new.proof (node_test C old c.args.claim.version c.args.claim.bound w c.args.numbers.now) c.leaf_step.result) (sym c.in-Leaf.is)
-    (subst (λ (b : ℤ). TakesLine C.size old c.leaf_step.new.proof (node_test C old c.args.claim.version b words.Leaf c.args.numbers.now) c.leaf_step.result) (to_z-of_z w64 c.args.claim.bound fits) c.leaf_step.ensures)
+    subst (λ (w : CertWord). TakesLine C.size old c.leaf_step.new.proof (node_test C old c.args.claim.version c.args.claim.bound w c.args.numbers.now) c.leaf_step.result) (sym c.in-Leaf.is) c.leaf_step.ensures

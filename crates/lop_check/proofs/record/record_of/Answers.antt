@@ -1,8 +1,9 @@
-use Rattle.std.proofs.Common.{◌≡◌, ◌∙◌, ◌-◌, ap, sym, rules, arith, List, ℕ, ℤ, Some, true, take, drop, get_or, nat_abs, pos, length, w64, to_z, of_z, FitsSigned}
+use Rattle.std.proofs.Common.{◌≡◌, ◌∙◌, ◌-◌, ap, sym, subst, rules, List, ℕ, ℤ, true, take, drop, get_or, nat_abs, pos, length, w64, to_z, of_z, FitsSigned}
 use Rattle.std.proofs.lemmas.Int.{to_z-of_z}
 use Rattle.std.proofs.lemmas.List.{take_rest}
-use Rattle.lop_certtext.specs.RecordLine.{terms_of, is_record_row, record_of}
-use Rattle.lop_check.proofs.NodeLemmas.{leaf_read}
+use Rattle.lop_certtext.specs.RecordLine.{is_record_row}
+use Rattle.lop_check.specs.Records.{IsRow}
+use Rattle.lop_check.proofs.NodeLemmas.{row_is}
 use Rattle.lop_check.proofs.record.record_of.Goals as goal
 
 pub returns-then-is_record_row : goal.returns-then-is_record_row
@@ -19,8 +20,5 @@ returns-then-is_record_row c =
     ∙ ap (λ (x : ℤ). is_record_row count (nat_abs (to_z w64 (of_z w64 s))) (nat_abs x) (take (length ns - 2) (drop 2 ns))) (sym (to_z-of_z w64 t fit_t))
     ∙ sym c.is_record_row.ensures ∙ c.if-is_record_row.true in
     let scale : c.unsigned_abs.result ≡ nat_abs s = c.unsigned_abs.ensures.value ∙ ap nat_abs (to_z-of_z w64 s fit_s) in
-    let made : record_of count ns ≡ Some (record { scale = c.unsigned_abs.result; terms = terms_of (take (length ns - 2) (drop 2 ns)) }) =
-    leaf_read count ns c.in-len2-up.len_at_least test
-    ∙ ap (λ (k : ℕ). Some (record { scale = k; terms = terms_of (drop 2 ns) })) (sym scale)
-    ∙ ap (λ (l : List ℤ). Some (record { scale = c.unsigned_abs.result; terms = terms_of l })) (sym (take_rest ns 2)) in
-    search (rules, made, scale, test)
+    subst (λ (k : ℕ). IsRow count ns k (take (length ns - 2) (drop 2 ns))) (sym scale)
+    (subst (IsRow count ns (nat_abs s)) (sym (take_rest ns 2)) (row_is count ns c.in-len2-up.len_at_least test))

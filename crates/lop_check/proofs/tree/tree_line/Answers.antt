@@ -1,5 +1,4 @@
-use Rattle.std.proofs.Common.{ap, ◌∙◌, length, rules, w64, FitsSigned}
-use Rattle.std.proofs.lemmas.Int.{to_z-of_z}
+use Rattle.std.proofs.Common.{ap, ◌∙◌, length, refl}
 use Rattle.lop_certtext.specs.RecordLine.{leaf_of}
 use Rattle.lop_check.specs.TreePlace.{place, pending_if}
 use Rattle.lop_check.proofs.PathLemmas.{walk_closed}
@@ -22,8 +21,7 @@ returns-in-Ok-clause-reads g c =
     let old = c.args.proof.now in
     let L = leaf_of c.args.claim.version (length old.cuts.items) old.records in
     let at = place old.walk in
-    let fits : FitsSigned w64 c.args.claim.bound = search rules in
-    node_passed C old.cuts.items c.node_step.new.proof.cuts.items L (leaf_of c.args.claim.version (length c.node_step.new.proof.cuts.items) c.node_step.new.proof.records) c.args.claim.value c.args.claim.bound _ old.walk.trail.fixed at (pending_if c.in-Ok.more (place c.node_step.new.proof.walk)) _ c.line.new.self.number _ _ _ c.line.new.self.numbers _ (ap (λ v. v.items) c.in-Ok.ensures.cuts) (ap (λ v. leaf_of c.args.claim.version (length v.items) c.node_step.new.proof.records) c.in-Ok.ensures.cuts ∙ ap (leaf_of c.args.claim.version (length old.cuts.items)) c.in-Ok.ensures.records) (to_z-of_z w64 c.args.claim.bound fits)
+    node_passed C old.cuts.items c.node_step.new.proof.cuts.items L (leaf_of c.args.claim.version (length c.node_step.new.proof.cuts.items) c.node_step.new.proof.records) c.args.claim.value c.args.claim.bound _ old.walk.trail.fixed at (pending_if c.in-Ok.more (place c.node_step.new.proof.walk)) _ c.line.new.self.number _ _ _ c.line.new.self.numbers _ (ap (λ v. v.items) c.in-Ok.ensures.cuts) (ap (λ v. leaf_of c.args.claim.version (length v.items) c.node_step.new.proof.records) c.in-Ok.ensures.cuts ∙ ap (leaf_of c.args.claim.version (length old.cuts.items)) c.in-Ok.ensures.records) refl
     (walk_closed old.walk c.requires.kept.walk) c.numbers.ensures
     ((c.in_ok-word.ensures.goes (node_then C old.cuts.items L c.args.claim.value c.args.claim.bound at.path at.others))) c.in-Ok.ensures.answer
 
@@ -33,7 +31,6 @@ returns-in-Err-clause-reads g c =
     let old = c.args.proof.now in
     let L = leaf_of c.args.claim.version (length old.cuts.items) old.records in
     let at = place old.walk in
-    let fits : FitsSigned w64 c.args.claim.bound = search rules in
-    node_failed C old.cuts.items L c.args.claim.value c.args.claim.bound _ old.walk.trail.fixed at _ c.line.new.self.number _ _ _ c.line.new.self.numbers _ _ c.in-Err.reason (to_z-of_z w64 c.args.claim.bound fits)
+    node_failed C old.cuts.items L c.args.claim.value c.args.claim.bound _ old.walk.trail.fixed at _ c.line.new.self.number _ _ _ c.line.new.self.numbers _ _ c.in-Err.reason refl
     (walk_closed old.walk c.requires.kept.walk) c.numbers.ensures c.rejected.ensures
     ((c.in_ok-word.ensures.goes (node_then C old.cuts.items L c.args.claim.value c.args.claim.bound at.path at.others))) c.in-Err.ensures.answer

@@ -1,7 +1,7 @@
 -- The list of records: the numbers of their terms lie one after another.
-use Rattle.std.proofs.Common.{◌≡◌, ℕ, suc, ◌+◌, ◌-◌, ◌*◌, ◌/◌, ◌≤◌, ◌<◌, Bool, true, false, cond, ◌&&◌, List, [], ◌∷◌, ◌++◌, length, take, drop, map, ℤ, nat_abs, get_or, pos, Option, None, Some, Ok, Err, refl, sym, ◌∙◌, ap, subst, arith}
+use Rattle.std.proofs.Common.{◌≡◌, ℕ, suc, ◌+◌, ◌-◌, ◌*◌, ◌/◌, ◌≤◌, Bool, true, false, cond, List, [], ◌∷◌, ◌++◌, length, take, drop, map, ℤ, nat_abs, Option, None, Some, Ok, Err, refl, sym, ◌∙◌, ap, arith}
 use Rattle.std.specs.List.{All}
-use Rattle.std.specs.Prelude.{nat_le, Result, OnOk, OnErr}
+use Rattle.std.specs.Prelude.{Result, OnOk, OnErr}
 use Rattle.std.specs.Result.{is_ok}
 use Rattle.std.proofs.lemmas.Bool.{false≢true}
 use Rattle.std.proofs.lemmas.List.Elements.{All-push}

@@ -52,7 +52,8 @@ LineTest = ℕ → (List (List Pair) → CheckAnswer) → CheckAnswer
 
 -- the test of a line of the tree, where the walk stands
 abbrev pub node_test : Matrix → Proof → CertVersion → ℤ → CertWord → List ℤ → LineTest
-node_test C p version bound word ns number next = node_step C p.cuts.items (leaf_of version (length p.cuts.items) p.records) bound p.walk.trail.fixed (place p.walk).path (place p.walk).others number word ns next
+node_test C p version bound word ns number next =
+    node_step C p.cuts.items (leaf_of version (length p.cuts.items) p.records) bound p.walk.trail.fixed (place p.walk).path (place p.walk).others number word ns next
 
 -- the test of a split
 abbrev pub split_test : ℕ → Proof → List ℤ → LineTest
@@ -74,7 +75,8 @@ pub record Shows (C : Matrix) (old new : Proof) (found : Option CertRecord) (res
   pub walk : new.walk ≡ old.walk
   pub answer : MatchOption result (found ≡ None) (IsShown C old found)
 
--- the line passes the test, and the walk stands where the pending paths are those that it leaves; or it fails for the reason
+-- the line passes the test, and the walk stands where the pending paths are those that it leaves; or it fails for the
+-- reason
 pub record TakesLine (n : ℕ) (old new : Proof) (test : LineTest) (result : Result Bool Reason) : Type 0 where
   pub kept : IsProof n new
   pub cuts : new.cuts ≡ old.cuts

@@ -1,5 +1,6 @@
--- The path to a node of the tree, and the pairs that it fixes, in a table of depths: for each ordered pair of n objects, row by row,
--- how many pairs the path had when a chain first led from the one object to the other, and 0 where none does.
+-- The path to a node of the tree, and the pairs that it fixes, in a table of depths: for each ordered pair of n
+-- objects, row by row, how many pairs the path had when a chain first led from the one object to the other, and 0 where
+-- none does.
 use Rattle.std.specs.Prelude.{◌≡◌, ◌↔◌, ℕ, ◌-◌, ◌*◌, ◌/◌, ◌<◌, ◌≤◌, Bool, not, nat_lt, nat_le, ◌==◌, ◌&&◌, ◌||◌, List, length, take, IsTrue, if◌then◌else◌}
 use Rattle.lop_model.specs.declared.pair.Pair.{Pair}
 use Rattle.lop_model.specs.Cells.{cell}
@@ -19,8 +20,8 @@ is_fixed t n a b = nat_lt 0 (cell t n a b)
 abbrev pub is_within : ℕ → ℕ → Bool
 is_within k depth = nat_lt 0 depth && nat_le depth k
 
--- the path is one of branching decisions, with room for one pair of each two objects; the first k of its pairs lead from a to b
--- where the depth of a and b is one of 1 to k
+-- the path is one of branching decisions, with room for one pair of each two objects; the first k of its pairs lead
+-- from a to b where the depth of a and b is one of 1 to k
 pub record IsTrail (n : ℕ) (path : List Pair) (capacity : ℕ) (t : List ℕ) : Type 0 where
   pub branching : IsBranchingPath n path
   pub fits : n * (n - 1) / 2 ≤ capacity

@@ -21,12 +21,14 @@ line_start r = r.count - length r.pending
 abbrev pub lines_to_come : World → LineState → List TextLine
 lines_to_come w r = lines_from (line_start r) (slice_split (λ b. b == 10) (to_come w r))
 
--- The verdict is what this rest of the walk answers: on the lines to come where the desk tells them, and else on some lines.
+-- The verdict is what this rest of the walk answers: on the lines to come where the desk tells them, and else on some
+-- lines.
 abbrev pub Answers : Option World → LineState → (List TextLine → CheckAnswer) → Verdict → Type 0
 Answers None r rest verdict = (lines : List TextLine) × Says (rest lines) verdict
 Answers (Some w) r rest verdict = Says (rest (lines_to_come w r)) verdict
 
--- where a reading stands: what the desk tells, its count of faults, and the reader with the number of the line read last
+-- where a reading stands: what the desk tells, its count of faults, and the reader with the number of the line read
+-- last
 pub record Spot : Type 0 where
   pub told : Option World
   pub faults : ℕ

@@ -22,7 +22,8 @@ use std::alloc::{AllocError, Global};
 use std::marker::Model;
 
 /// A room for checks of files of n objects: one line and its numbers, the cuts, the records that leaves name, and the
-/// path to a node of the tree with all that it fixes. A contract sees n, the path, and the pairs that it fixes: the closure of the path.
+/// path to a node of the tree with all that it fixes. A contract sees n, the path, and the pairs that it fixes: the
+/// closure of the path.
 #[derive(Drop)]
 pub struct CheckRoom {
     reading: Reading,
@@ -61,8 +62,9 @@ impl CheckRoom {
 
 /// What the checker says of the opened file, which was just opened. The lines are read in turn, one at a time, and the
 /// first test that fails gives line and reason. The room's path is emptied before and after. It takes memory for the
-/// lists of cuts and of records alone, as they are read; all else is there with the room. Cost: O(1) a byte, O(n² + arcs of its terms) a leaf, and for
-/// each step down or up the tree O(n), and O(n) for each object that is fixed before the first of its pair.
+/// lists of cuts and of records alone, as they are read; all else is there with the room. Cost: O(1) a byte,
+/// O(n² + arcs of its terms) a leaf, and for each step down or up the tree O(n), and O(n) for each object that is fixed
+/// before the first of its pair.
 pub fn check<D: Desk>(weights: &Weights, desk: &mut D, room: &mut CheckRoom) -> Verdict
     requires opened { IsOpen (D.told desk.old) }
     requires same_n { room.old.size ≡ weights.now.size }

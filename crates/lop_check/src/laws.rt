@@ -6,8 +6,8 @@ use crate::CheckRoom;
 use lop_model::Pair;
 
 impl CheckRoom {
-    /// Appends an undecided pair to the path. It takes no memory. O(n), and O(n) for each object that is fixed before its
-    /// first.
+    /// Appends an undecided pair to the path. It takes no memory. O(n), and O(n) for each object that is fixed before
+    /// its first.
     pub fn descend(&mut self, pair: Pair)
         requires undecided { IsUndecided self.old.size self.old.path pair.before pair.after }
         ensures size { self.new.size ≡ self.old.size }

@@ -3,7 +3,7 @@ use Rattle.std.specs.Int.{w128}
 use Rattle.std.proofs.lemmas.Int.{to_z-of_z}
 use Rattle.lop_cuts.specs.declared.kind.CutKind.{CutKind}
 use Rattle.lop_cuts.specs.Lagrangian.{lagrangian_value}
-use Rattle.lop_certtext.specs.RecordLine.{CertRecord, CutTerm, named_of, terms_in, terms_of}
+use Rattle.lop_certtext.specs.RecordLine.{CutTerm, named_of, terms_in, terms_of}
 use Rattle.lop_certtext.specs.Answer.{leaf_value}
 use Rattle.lop_check.specs.Records.{AreTerms, IsPlace, IsRecordOver, record_at}
 use Rattle.lop_check.proofs.NodeLemmas.{one_front}
@@ -17,8 +17,7 @@ upper-upper-requires-clause-row c =
     let cuts = old.cuts.items in
     let place = c.in_ok-place-in-len1.place in
     let r = record_at old.records place in
-    let right : IsRecordOver (length cuts) r = c.requires.records place (record { scale = 1; terms = [] }) c.in_ok-place-in-len1.ensures.within in
-    (
+    let right : IsRecordOver (length cuts) r = c.requires.records place (record { scale = 1; terms = [] }) c.in_ok-place-in-len1.ensures.within in (
       omega (arith, c.scale-scale.ensures, right.within_limit),
       subst (λ (k : ℕ). AreTerms k c.terms.result.now) (sym (ap length c.as_slice.ensures.value)) (terms_over (length cuts) r c.terms.result.now c.terms.ensures.even.0 right c.terms.ensures.even.1 c.terms.ensures.terms),
     )

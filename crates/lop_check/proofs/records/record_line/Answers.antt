@@ -1,4 +1,4 @@
-use Rattle.std.proofs.Common.{◌≡◌, ◌≤◌, ◌+◌, ◌/◌, ◌∷◌, ◌∙◌, [], ◌++◌, List, ℕ, Bool, None, Some, true, false, length, ap, sym, subst, arith, rules}
+use Rattle.std.proofs.Common.{◌≡◌, ◌+◌, ◌∷◌, ◌∙◌, [], ◌++◌, ℕ, None, Some, true, false, length, ap, sym, subst, arith, rules}
 use Rattle.std.specs.Prelude.{nat_le}
 use Rattle.std.specs.Result.{is_ok}
 use Rattle.std.proofs.lemmas.Bool.{leb-true}
@@ -7,7 +7,7 @@ use Rattle.lop_certtext.specs.declared.reason.Reason.TheVariants as reason
 use Rattle.lop_certtext.specs.declared.limits.TheConstants.{MAX_TOTAL_TERMS}
 use Rattle.lop_certtext.specs.RecordLine.{CertRecord, record_of, terms_of, term_count}
 use Rattle.lop_check.specs.declared.verdict.Verdict.TheVariants as verdict
-use Rattle.lop_check.specs.Records.{AreRecords, IsRecordOver, IsRow}
+use Rattle.lop_check.specs.Records.{AreRecords, IsRecordOver}
 use Rattle.lop_check.proofs.Charging.{length-terms_of}
 use Rattle.lop_check.proofs.RecordLemmas.{if_ok, if_err, row_terms}
 use Rattle.lop_check.proofs.Walk.{exits, fails, passes, says}

@@ -1,4 +1,4 @@
-use Rattle.std.proofs.Common.{◌≡◌, ◌<◌, ◌≤◌, ◌+◌, ◌-◌, ◌∙◌, [], ℕ, length, nat_abs, ap, sym, arith, rules, w64, FitsSigned}
+use Rattle.std.proofs.Common.{◌≡◌, ◌<◌, ◌≤◌, ◌+◌, ◌-◌, ◌∙◌, [], ℕ, length, nat_abs, ap, arith, rules, w64, FitsSigned}
 use Rattle.std.proofs.lemmas.Int.{to_z-of_z}
 use Rattle.lop_model.specs.Closing.{closed}
 use Rattle.lop_certtext.specs.declared.version.CertVersion.TheVariants.{Two}

@@ -1,4 +1,4 @@
-use Rattle.std.proofs.Common.{◌≡◌, ◌≤◌, ◌+◌, ◌*◌, ◌/◌, ◌∷◌, ◌++◌, [], List, ℕ, ℤ, length, map, ◌∙◌, ap, sym, subst, arith}
+use Rattle.std.proofs.Common.{◌≡◌, ◌≤◌, ◌+◌, ◌*◌, ◌/◌, ◌∷◌, ◌++◌, [], List, ℤ, length, map, ◌∙◌, ap, sym, subst, arith}
 use Rattle.lop_certtext.specs.declared.limits.TheConstants.{MAX_TOTAL_TERMS}
 use Rattle.lop_certtext.specs.RecordLine.{CertRecord, term_count, terms_of}
 use Rattle.lop_check.specs.declared.record_list.Span.{Span}

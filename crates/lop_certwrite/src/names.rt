@@ -26,7 +26,7 @@ pub struct Names {
 #[derive(Drop)]
 pub struct WriteRoom {
     budget: u32,
-    pub names: Names,
+    pub(crate) names: Names,
 }
 
 impl Model for WriteRoom {
@@ -114,7 +114,8 @@ impl Names {
         }
     }
 
-    /// Finds the records that leaves use, in the order of their first use in preorder. O(the number of nodes and places).
+    /// Finds the records that leaves use, in the order of their first use in preorder. O(the number of nodes and
+    /// places).
     pub fn find(&mut self, core: &Core)
         requires for_numbers { core.now.state.evaluated < length self.old.places.items }
         requires few { length self.old.places.items ≤ 1000001 }

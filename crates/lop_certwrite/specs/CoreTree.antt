@@ -57,10 +57,14 @@ open_nodes (two_below pair first second) = open_nodes first ++ open_nodes second
 abbrev pub is_used : List ℕ → List ℕ → ℕ → Bool
 is_used numbers users node = list_any (λ other. number_at numbers other == number_at numbers node) users
 
+-- the nodes with one more, if none of them has its record
+abbrev pub with_user : List ℕ → List ℕ → ℕ → List ℕ
+with_user numbers users node = if is_used numbers users node then users else users ++ node ∷ []
+
 -- the first node of each record, in turn, behind those so far; records are told apart by their numbers
 abbrev pub users_from : List ℕ → List ℕ → List ℕ → List ℕ
 users_from numbers users [] = users
-users_from numbers users (node ∷ nodes) = users_from numbers (if is_used numbers users node then users else users ++ node ∷ []) nodes
+users_from numbers users (node ∷ nodes) = users_from numbers (with_user numbers users node) nodes
 
 -- the first node of each record that leaves use, in the order of that first use
 abbrev pub users_in : List ℕ → NodeTree → List ℕ

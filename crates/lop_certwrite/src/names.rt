@@ -1,23 +1,42 @@
 // The records that leaves use, and the numbers that they get in a text.
-ghost use Rattle.std.specs.Prelude.{◌≡◌, ◌<◌, ◌≤◌, ◌+◌, length, IfOk};
+ghost use Rattle.std.specs.Prelude.{◌≡◌, ◌<◌, ◌≤◌, ◌+◌, true, [], length, All, IfOk, vec_len, vec_capacity};
 ghost use Rattle.lop_core.specs.Tree.{AreLinked};
-ghost use Rattle.lop_core.specs.Core.{AreRecorded};
-ghost use Rattle.lop_certwrite.specs.CoreTree.{WholeTree, users_in};
-ghost use Rattle.lop_certwrite.specs.Names.{IsNaming};
+ghost use Rattle.lop_certwrite.specs.CoreTree.{WholeTree, is_used, place_among, users_from, with_user};
+ghost use Rattle.lop_certwrite.specs.Names.{ArePlaces, IsNaming};
+ghost use Rattle.lop_certwrite.specs.Walk.{open_in, visit_at};
 
 use crate::walk::next_node;
 use lop_core::{Core, Standing};
 use std::alloc::{AllocError, Global};
 use std::marker::Model;
 
+/// The most nodes that a core evaluates.
+const MOST_NODES: u32 = 1_000_000;
+
+/// The records that leaves use.
+#[derive(Drop)]
+pub struct Names {
+    /// By the number of a record in the core, its place in the text from 1, or 0 where no leaf was met that uses it.
+    pub places: Vec<u32>,
+    /// By that place, the first node that uses it.
+    pub users: Vec<u32>,
+}
+
 /// A room for the numbers of records in a text. A contract sees the budget of nodes that it was made for.
 #[derive(Drop)]
 pub struct WriteRoom {
     budget: u32,
-    // by the number of a record in the core, its place in the text, or 0 where no leaf was met that uses it
-    places: Vec<u32>,
-    // by that place, from 0, the first node that uses it
-    users: Vec<u32>,
+    pub names: Names,
+}
+
+impl Model for WriteRoom {
+    ghost use Rattle.std.specs.Prelude.{◌≤◌, ◌+◌, ℕ, length, vec_capacity, min};
+
+    ghost Value = { ℕ };
+
+    ghost view = { λ room. room.budget };
+
+    ghost invariant = { λ room. (min room.budget 1000000 + 1 ≤ length room.names.places.items) × (length room.names.places.items ≤ 1000001) × (length room.names.places.items ≤ vec_capacity room.names.users) };
 }
 
 impl WriteRoom {
@@ -26,49 +45,102 @@ impl WriteRoom {
     pub fn new(alloc: Global, budget: u32) -> Result<WriteRoom, AllocError>
         ensures { IfOk result (λ room. room ≡ budget) }
     {
-        let count = budget as usize + 1;
+        let count = budget.min(MOST_NODES) as usize + 1;
+        let places = vec![in alloc; 0; count]?;
+        let users = Vec::with_capacity(alloc, count)?;
         Ok(WriteRoom {
             budget,
-            places: vec![in alloc; 0; count]?,
-            users: Vec::with_capacity(alloc, count)?,
+            names: Names { places, users },
         })
     }
+}
 
-    // Forgets an earlier core. O(budget).
-    fn clear(&mut self) {
+/// Appends where there is room, and takes no memory.
+fn put_last(list: &mut Vec<u32>, item: u32)
+    requires { vec_len list.old < vec_capacity list.old }
+    ensures items { list.new.items ≡ list.old.items ++ item ∷ [] }
+    ensures room { vec_capacity list.old ≤ vec_capacity list.new }
+{
+    let _ = list.push(item);
+}
+
+impl Names {
+    // Forgets an earlier core. O(the number of places).
+    fn clear(&mut self)
+        ensures users { self.new.users.items ≡ [] }
+        ensures places { All (λ place. place ≡ 0) self.new.places.items }
+        ensures same_length { length self.new.places.items ≡ length self.old.places.items }
+        ensures same_room { vec_capacity self.old.users ≤ vec_capacity self.new.users }
+    {
         self.places.fill(0);
         self.users.clear();
     }
 
-    // A leaf uses its node's record.
-    fn note(&mut self, core: &Core, node: u32) {
+    // A node that isn't split uses its record.
+    fn note(&mut self, core: &Core, node: u32)
+        requires inside { node < length core.now.state.nodes }
+        requires for_numbers { core.now.state.evaluated < length self.old.places.items }
+        requires few { length self.old.places.items ≤ 1000001 }
+        requires room { length self.old.places.items ≤ vec_capacity self.old.users }
+        requires places { ArePlaces core.now.book.numbers self.old.users.items self.old.places.items }
+        ensures users { self.new.users.items ≡ with_user core.now.book.numbers self.old.users.items node }
+        ensures places { ArePlaces core.now.book.numbers self.new.users.items self.new.places.items }
+        ensures same_length { length self.new.places.items ≡ length self.old.places.items }
+        ensures same_room { vec_capacity self.old.users ≤ vec_capacity self.new.users }
+    {
         let number = core.record_of(node) as usize;
         if self.places[number] == 0 {
-            self.users.push(node).unwrap();
-            self.places[number] = self.users.len() as u32;
+            let place = self.users.len() as u32 + 1;
+            put_last(&mut self.users, node);
+            self.places[number] = place;
         }
     }
 
-    // Finds the records that leaves use, in the order of their first use in preorder. O(the number of nodes).
-    pub(crate) fn find(&mut self, core: &Core) {
+    // The walk meets a node.
+    fn meet(&mut self, core: &Core, node: u32)
+        requires inside { node < length core.now.state.nodes }
+        requires for_numbers { core.now.state.evaluated < length self.old.places.items }
+        requires few { length self.old.places.items ≤ 1000001 }
+        requires room { length self.old.places.items ≤ vec_capacity self.old.users }
+        requires places { ArePlaces core.now.book.numbers self.old.users.items self.old.places.items }
+        ensures users { self.new.users.items ≡ users_from core.now.book.numbers self.old.users.items (open_in (visit_at core.now.state.nodes node)) }
+        ensures places { ArePlaces core.now.book.numbers self.new.users.items self.new.places.items }
+        ensures same_length { length self.new.places.items ≡ length self.old.places.items }
+        ensures same_room { vec_capacity self.old.users ≤ vec_capacity self.new.users }
+    {
+        match core.node(node).standing {
+            Standing::Split(_) => {}
+            Standing::Idle | Standing::Out(_) => self.note(core, node),
+        }
+    }
+
+    /// Finds the records that leaves use, in the order of their first use in preorder. O(the number of nodes and places).
+    pub fn find(&mut self, core: &Core)
+        requires for_numbers { core.now.state.evaluated < length self.old.places.items }
+        requires few { length self.old.places.items ≤ 1000001 }
+        requires room { length self.old.places.items ≤ vec_capacity self.old.users }
+        requires whole { WholeTree core.now.state.nodes }
+        requires linked { AreLinked core.now.state.nodes }
+        ensures naming { (whole : WholeTree core.now.state.nodes) → IsNaming core.now.book.numbers whole.tree self.new.users.items self.new.places.items }
+        ensures same_length { length self.new.places.items ≡ length self.old.places.items }
+        ensures same_room { vec_capacity self.old.users ≤ vec_capacity self.new.users }
+    {
         self.clear();
         let mut node = 0;
         for _ in 0..core.nodes() {
-            match core.node(node).standing {
-                Standing::Split(_) => {}
-                Standing::Idle | Standing::Out(_) => self.note(core, node),
-            }
+            self.meet(core, node);
             node = next_node(core, node);
         }
     }
 
-    // The first node of each record that leaves use, in turn.
-    pub(crate) fn users(&self) -> &[u32] {
-        &self.users
-    }
-
-    // The number, from 1, of a node's record in the text.
-    pub(crate) fn name(&self, core: &Core, node: u32) -> u32 {
+    /// The number, from 1, of a node's record in the text.
+    pub fn name(&self, core: &Core, node: u32) -> u32
+        requires inside { node < length core.now.state.nodes }
+        requires for_numbers { core.now.state.evaluated < length self.now.places.items }
+        requires places { ArePlaces core.now.book.numbers self.now.users.items self.now.places.items }
+        requires used { is_used core.now.book.numbers self.now.users.items node ≡ true }
+        ensures { result ≡ place_among core.now.book.numbers self.now.users.items node }
+    {
         self.places[core.record_of(node) as usize]
     }
 }

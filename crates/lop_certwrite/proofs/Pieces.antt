@@ -1,5 +1,5 @@
 -- The text of a core's certificate in the pieces in which it is written.
-use Rattle.std.proofs.Common.{◌≡◌, ℕ, List, [], ◌∷◌, ◌++◌, length, map, ℤ, refl, sym, ◌∙◌, ap, subst, Option, Result, Ok, Err, IsErrAnd}
+use Rattle.std.proofs.Common.{◌≡◌, ℕ, List, [], ◌∷◌, ◌++◌, length, map, ℤ, pos, refl, sym, ◌∙◌, ap, subst, Option, Result, Ok, Err, IsErrAnd}
 use Rattle.std.specs.Prelude.{OnOk}
 use Rattle.std.proofs.lemmas.List.{length-map}
 use Rattle.lop_desk.specs.World.{World, with_written}
@@ -50,7 +50,7 @@ users_text : (core : CoreFields) (users : List ℕ) → map record_line (records
 users_text core [] = refl
 users_text core (u ∷ us) = ap (λ (ls : List CertLine). user_line core.book.records u ∷ ls) (users_text core us)
 
-abbrev end_line : List CertLine
+end_line : List CertLine
 end_line = record { word = End; numbers = [] } ∷ []
 
 -- its text is the pieces, one after another

@@ -71,7 +71,7 @@ up_second nodes at trees ne h (at_second parent first pair node rest s e p) =
 
 -- ---- down, and from a leaf on
 
-open_visit : (nodes : List SearchNode) (node : ℕ) (standing : Standing) → is_split standing ≡ false → visit_by nodes standing node ≡ at_open node
+pub open_visit : (nodes : List SearchNode) (node : ℕ) (standing : Standing) → is_split standing ≡ false → visit_by nodes standing node ≡ at_open node
 open_visit nodes node Idle e = refl
 open_visit nodes node (Out w) e = refl
 open_visit nodes node (Split first) e = absurd (cc)

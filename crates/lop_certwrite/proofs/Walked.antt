@@ -1,19 +1,21 @@
 -- The walk as it goes on: what was met, and what is left.
-use Rattle.std.proofs.Common.{◌≡◌, ℕ, suc, ◌+◌, ◌<◌, ◌≤◌, true, false, List, [], ◌∷◌, ◌++◌, length, length-append, inl, inr, arith, sym, ◌∙◌, refl, ap, subst, append_assoc, Option, Result, IsErrAnd}
+use Rattle.std.proofs.Common.{◌≡◌, ℕ, suc, ◌+◌, ◌<◌, ◌≤◌, true, false, List, [], ◌∷◌, ◌++◌, length, length-append, map, inl, inr, arith, sym, ◌∙◌, refl, ap, subst, append_assoc, Option, Result, IsErrAnd}
 use Rattle.std.specs.Prelude.{All}
 use Rattle.std.proofs.lemmas.List.{append-nil}
 use Rattle.std.proofs.lemmas.List.Elements.{All-nil, All-cons, All-append}
 use Rattle.std.proofs.lemmas.Grind.{flat_map-append}
 use Rattle.lop_core.specs.declared.node.SearchNode.{SearchNode}
-use Rattle.lop_core.specs.declared.node.Standing.TheVariants.{Split}
+use Rattle.lop_core.specs.declared.node.Standing.{Standing}
+use Rattle.lop_core.specs.declared.node.Standing.TheVariants.{Idle, Out, Split}
 use Rattle.lop_core.specs.Tree.{node_at, is_split}
 use Rattle.lop_desk.specs.World.{World, with_written}
 use Rattle.lop_desk.specs.Whole.{WritesFront, WritesAll}
 use Rattle.lop_desk.proofs.Worlds.{written_more}
 use Rattle.lop_certtext.specs.Line.{CertLine}
 use Rattle.lop_certtext.specs.Certificate.{text_of}
-use Rattle.lop_certwrite.specs.CoreTree.{NodeTree, one_node, two_below, node_count, WholeTree, IsTreeAt, open_nodes, is_used, users_from, users_in}
-use Rattle.lop_certwrite.specs.Walk.{at_root, Visit, IsAt, IsNext, IsWalkedTo, visit_at, visits_of, open_in, opens_in, visit_line, visit_lines, line_bytes}
+use Rattle.lop_certwrite.specs.CoreTree.{NodeTree, one_node, two_below, node_count, WholeTree, IsTreeAt, open_nodes, is_used, with_user, users_from, users_in}
+use Rattle.lop_certwrite.specs.Names.{ArePlaces, IsNaming}
+use Rattle.lop_certwrite.specs.Walk.{at_root, Visit, IsAt, IsNext, IsWalkedTo, visit_at, visit_by, visits_of, open_in, opens_in, visit_line, visit_lines, line_bytes}
 use Rattle.lop_certwrite.proofs.CutLines.{map_append}
 use Rattle.lop_certwrite.proofs.Users.{users_more, used_all}
 use Rattle.lop_certwrite.proofs.WalkLemmas.{first_visit, open_visit, tree_inside, first_inside}
@@ -98,6 +100,14 @@ module _ (nodes : List SearchNode) (tree : NodeTree) (done : List Visit) (count 
       ap (λ (l : List ℕ). is_used numbers (users_from numbers [] l) node) all ∙ used_all numbers [] (opens_in done) (opens_in parts.0) node
 
 -- ---- the users of what was met
+
+-- a split node is no user
+pub meet_split : (nodes : List SearchNode) (numbers users : List ℕ) (node first : ℕ) → (node_at nodes node).standing ≡ Split first → users ≡ users_from numbers users (open_in (visit_at nodes node))
+meet_split nodes numbers users node first e = sym (ap (λ (s : Standing). users_from numbers users (open_in (visit_by nodes s node))) e)
+
+-- another uses its record
+pub meet_open : (nodes : List SearchNode) (numbers users : List ℕ) (node : ℕ) → is_split (node_at nodes node).standing ≡ false → with_user numbers users node ≡ users_from numbers users (open_in (visit_at nodes node))
+meet_open nodes numbers users node st = sym (ap (λ (v : Visit). users_from numbers users (open_in v)) (open_visit nodes node (node_at nodes node).standing st))
 
 pub record IsFoundTo (nodes : List SearchNode) (numbers : List ℕ) (tree : NodeTree) (users : List ℕ) (count node : ℕ) : Type 0 where
   pub done : List Visit

@@ -1,5 +1,5 @@
 -- The walk over the tree: from a node to the next one, by the links to the parents.
-use Rattle.std.specs.Prelude.{◌≡◌, ◌⊎◌, ℕ, ◌+◌, List, [], ◌∷◌, ◌++◌, length, codes, Option, Bool, false, ◌==◌, map, ℤ, pos}
+use Rattle.std.specs.Prelude.{◌≡◌, ◌⊎◌, ℕ, ◌+◌, List, [], ◌∷◌, ◌++◌, length, codes, Bool, false, ◌==◌, map, ℤ, pos}
 use Rattle.std.specs.List.{flat_map}
 use Rattle.lop_model.specs.declared.pair.Pair.{Pair}
 use Rattle.lop_core.specs.declared.node.SearchNode.{SearchNode}
@@ -13,7 +13,6 @@ use Rattle.lop_certtext.specs.declared.word.CertWord.TheVariants.{Version, Objec
 use Rattle.lop_certtext.specs.CutLine.{numbers_of_objects, cut_line}
 use Rattle.lop_certtext.specs.RecordLine.{record_line}
 use Rattle.lop_certtext.specs.Tree.{split_line}
-use Rattle.lop_certtext.specs.Certificate.{text_of}
 use Rattle.lop_certwrite.specs.CoreTree.{NodeTree, one_node, two_below, IsSplitInto, IsTreeAt, cert_record_of, users_in, place_among}
 
 -- what the walk meets at a node: the pair by which it is split, or the number of a node that isn't split
@@ -79,9 +78,8 @@ pub record IsNext (nodes : List SearchNode) (node next : ℕ) : Type 0 where
 pub record IsNextUp (nodes : List SearchNode) (node next : ℕ) : Type 0 where
   pub each : (trees : List NodeTree) → IsPending nodes node trees → IsLeft nodes next (visits_of_all trees)
 
--- so many nodes of the tree were met, and the rest is left at the node
-pub record IsWalkedTo (nodes : List SearchNode) (tree : NodeTree) (count node : ℕ) : Type 0 where
-  pub done : List Visit
+-- so many nodes of the tree were met, by these visits, and the rest is left at the node
+pub record IsWalkedTo (nodes : List SearchNode) (tree : NodeTree) (done : List Visit) (count node : ℕ) : Type 0 where
   pub to_come : List Visit
   pub parts : visits_of tree ≡ done ++ to_come
   pub stands : IsLeft nodes node to_come

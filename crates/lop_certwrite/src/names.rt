@@ -1,5 +1,5 @@
 // The records that leaves use, and the numbers that they get in a text.
-ghost use Rattle.std.specs.Prelude.{◌≡◌, ◌<◌, ◌≤◌, ◌+◌, true, [], length, All, IfOk, vec_len, vec_capacity};
+ghost use Rattle.std.specs.Prelude.{◌≡◌, ◌<◌, ◌≤◌, ◌∷◌, ◌++◌, true, [], length, All, IfOk, vec_len, vec_capacity};
 ghost use Rattle.lop_core.specs.Tree.{AreLinked};
 ghost use Rattle.lop_certwrite.specs.CoreTree.{WholeTree, is_used, place_among, users_from, with_user};
 ghost use Rattle.lop_certwrite.specs.Names.{ArePlaces, IsNaming};

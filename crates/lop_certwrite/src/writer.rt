@@ -12,9 +12,34 @@ ghost use Rattle.lop_certwrite.specs.Names.{IsNaming};
 use crate::body::write_body;
 use crate::head::{write_bound_lines, write_order_lines};
 use crate::line::{Numbers, narrow};
-use crate::names::WriteRoom;
+use crate::names::{Names, WriteRoom};
 use lop_core::Core;
 use lop_desk::{Desk, DeskFailed, TextRoom};
+
+/// Writes all lines, where the records that leaves use have their names.
+fn write_lines<D: Desk>(
+    core: &Core,
+    names: &Names,
+    desk: &mut D,
+    room: &mut TextRoom,
+) -> Result<(), DeskFailed>
+    requires making { IsMaking (D.told desk.old) }
+    requires for_numbers { core.now.state.evaluated < length names.now.places.items }
+    requires few { length names.now.places.items ≤ 1000001 }
+    requires naming { (whole : WholeTree core.now.state.nodes) → IsNaming core.now.book.numbers whole.tree names.now.users.items names.now.places.items }
+    ensures text { (c : Certificate) × IsCertificateOf core.now c × WritesAll (D.told desk.old) (D.told desk.new) (certificate_text Two c) result }
+    ensures holds { OnOk result ((c : Certificate) → IsCertificateOf core.now c → IsTreeCertificate core.now.problem.weights c) }
+    ensures cause { HasCause (D.faults desk.old) (D.faults desk.new) result }
+{
+    let mut numbers = Numbers::new();
+    let order = core.best_order();
+    prove_eq!(order.n(), core.weights().n());
+    let value = narrow(core.best());
+    let bound = narrow(core.bound());
+    write_order_lines(order, value, &mut numbers, desk, room)?;
+    write_bound_lines(bound, core.cuts(), desk, room)?;
+    write_body(core, names, &mut numbers, desk, room)
+}
 
 /// Appends the text, in version 2, of the core's certificate to the file that is being made: best with its order, the
 /// core's bound, its cuts in order, the records that leaves use, each once, in the order of their first use in
@@ -36,15 +61,9 @@ pub fn write_certificate<D: Desk>(
     ensures cause { HasCause (D.faults desk.old) (D.faults desk.new) result }
     ensures same_room { names.new ≡ names.old }
 {
-    let mut numbers = Numbers::new();
-    let order = core.best_order();
-    prove_eq!(order.n(), core.weights().n());
     prove!(core.evaluated() <= core.budget());
     prove!(core.record_of(0) <= core.evaluated());
-    let value = narrow(core.best());
-    let bound = narrow(core.bound());
+    prove!(core.cuts() <= 65_536);
     names.names.find(core);
-    write_order_lines(order, value, &mut numbers, desk, room)?;
-    write_bound_lines(bound, core.cuts(), desk, room)?;
-    write_body(core, &names.names, &mut numbers, desk, room)
+    write_lines(core, &names.names, desk, room)
 }

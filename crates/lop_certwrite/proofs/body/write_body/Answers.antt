@@ -1,4 +1,4 @@
-use Rattle.std.proofs.Common.{rules, ◌≡◌, [], ◌∷◌, ◌++◌, ◌<◌, length, List, ℕ, map, sym, subst, arith}
+use Rattle.std.proofs.Common.{rules, ◌≡◌, [], ◌∷◌, ◌++◌, ◌<◌, ◌≤◌, length, List, ℕ, map, sym, ap, subst, arith}
 use Rattle.std.specs.Prelude.{All}
 use Rattle.lop_desk.proofs.Worlds.{still_making}
 use Rattle.lop_certtext.specs.declared.word.CertWord.TheVariants.{End}
@@ -6,7 +6,7 @@ use Rattle.lop_certtext.specs.Line.{CertLine}
 use Rattle.lop_certtext.specs.CutLine.{cut_line}
 use Rattle.lop_certwrite.specs.CoreTree.{users_in, open_nodes}
 use Rattle.lop_certwrite.specs.Walk.{user_lines, visit_lines, visits_of}
-use Rattle.lop_certwrite.proofs.Pieces.{with_users}
+use Rattle.lop_certwrite.proofs.Pieces.{body_by, with_users}
 use Rattle.lop_certwrite.proofs.Users.{users_all, users_few}
 use Rattle.lop_certwrite.proofs.Walked.{opens_inside}
 use Rattle.lop_certwrite.proofs.Written.{lines_cut, lines_then, last_line}
@@ -20,11 +20,6 @@ write_users-requires-clause-inside g c =
     let all : All (λ i. i < length nodes) (users_in numbers tree) = users_all numbers (λ i. i < length nodes) [] (open_nodes tree) (λ k d l. absurd (omega arith)) (opens_inside nodes 0 tree c.requires.whole.is_tree) in
     let e : c.deref.result.now ≡ users_in numbers tree = search rules in
     subst (All (λ i. i < length nodes)) (sym e) all
-
-pub write_users-requires-clause-few : goal.write_users-requires-clause-few
-write_users-requires-clause-few g c =
-    let few = users_few c.args.core.now.book.numbers c.args.names.now.users.items c.args.names.now.places.items (c.requires.naming c.requires.whole).places_are in
-    search (rules, few)
 
 pub returns-in_err-write_cuts-clause-effect : goal.returns-in_err-write_cuts-clause-effect
 returns-in_err-write_cuts-clause-effect g c = λ whole.

@@ -50,7 +50,7 @@ users_text : (core : CoreFields) (users : List ℕ) → map record_line (records
 users_text core [] = refl
 users_text core (u ∷ us) = ap (λ (ls : List CertLine). user_line core.book.records u ∷ ls) (users_text core us)
 
-end_line : List CertLine
+abbrev end_line : List CertLine
 end_line = record { word = End; numbers = [] } ∷ []
 
 -- its text is the pieces, one after another

@@ -1,6 +1,6 @@
 -- The nodes whose records have lines, and the places of these.
 use Rattle.std.proofs.Common.{◌≡◌, ◌≢◌, ℕ, zero, suc, ◌+◌, ◌-◌, ◌<◌, ◌≤◌, ◌⊎◌, inl, inr, Bool, true, false, cond, eqb, List, [], ◌∷◌, ◌++◌, length, get_or, set, map, length-set, refl, sym, ◌∙◌, ap, subst, arith}
-use Rattle.std.specs.Prelude.{◌==◌, All, AllPairs}
+use Rattle.std.specs.Prelude.{◌==◌, ◌||◌, All, AllPairs}
 use Rattle.std.specs.List.{list_any, position_or_len, flat_map}
 use Rattle.std.proofs.lemmas.Bool.{cases_lt, cases_eq, eqb-true, eq-eqb, ne_eqb, false≢true}
 use Rattle.std.proofs.lemmas.Bool.Decides.{Decides-eqb}
@@ -55,7 +55,7 @@ module _ (numbers : List ℕ) where
   -- a record that is used stays so
   used_with : (b : Bool) (users : List ℕ) (node other : ℕ) → is_used numbers users other ≡ true → is_used numbers (cond b users (users ++ node ∷ [])) other ≡ true
   used_with true users node other h = h
-  used_with false users node other h = list_any-append (has_number other) users (node ∷ []) ∙ grind h
+  used_with false users node other h = list_any-append (has_number other) users (node ∷ []) ∙ ap (λ (b : Bool). b || list_any (has_number other) (node ∷ [])) h
 
   pub used_kept : (users nodes : List ℕ) (other : ℕ) → is_used numbers users other ≡ true → is_used numbers (users_from numbers users nodes) other ≡ true
   used_kept users [] other h = h

@@ -21,6 +21,11 @@ write_users-requires-clause-inside g c =
     let e : c.deref.result.now ≡ users_in numbers tree = search rules in
     subst (All (λ i. i < length nodes)) (sym e) all
 
+pub write_users-requires-clause-few : goal.write_users-requires-clause-few
+write_users-requires-clause-few g c =
+    let few = users_few c.args.core.now.book.numbers c.args.names.now.users.items c.args.names.now.places.items (c.requires.naming c.requires.whole).places_are in
+    search (rules, few)
+
 pub returns-in_err-write_cuts-clause-effect : goal.returns-in_err-write_cuts-clause-effect
 returns-in_err-write_cuts-clause-effect g c = λ whole.
     let core = c.args.core.now in

@@ -101,14 +101,6 @@ module _ (nodes : List SearchNode) (tree : NodeTree) (done : List Visit) (count 
 
 -- ---- the users of what was met
 
--- a split node is no user
-pub meet_split : (nodes : List SearchNode) (numbers users : List ℕ) (node first : ℕ) → (node_at nodes node).standing ≡ Split first → users ≡ users_from numbers users (open_in (visit_at nodes node))
-meet_split nodes numbers users node first e = sym (ap (λ (s : Standing). users_from numbers users (open_in (visit_by nodes s node))) e)
-
--- another uses its record
-pub meet_open : (nodes : List SearchNode) (numbers users : List ℕ) (node : ℕ) → is_split (node_at nodes node).standing ≡ false → with_user numbers users node ≡ users_from numbers users (open_in (visit_at nodes node))
-meet_open nodes numbers users node st = sym (ap (λ (v : Visit). users_from numbers users (open_in v)) (open_visit nodes node (node_at nodes node).standing st))
-
 pub record IsFoundTo (nodes : List SearchNode) (numbers : List ℕ) (tree : NodeTree) (users : List ℕ) (count node : ℕ) : Type 0 where
   pub done : List Visit
   pub walked : IsWalkedTo nodes tree done count node

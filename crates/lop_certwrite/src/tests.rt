@@ -1,6 +1,11 @@
-// The certificate of a search that has only its root.
+// The certificates of a search that has only its root, and of one in which leaves share records.
+ghost use Rattle.std.specs.Prelude.{◌≡◌, IsTrue, IfOk, length};
+ghost use Rattle.lop_model.specs.Order.{IsOrder};
+ghost use Rattle.lop_model.specs.Matrix.{weight};
+ghost use Rattle.lop_leaf.specs.Sound.{IsSoundTicket, IsSoundResult};
+
 use crate::{WriteRoom, write_certificate};
-use lop_core::Core;
+use lop_core::{Core, TakeReply};
 use lop_desk::{Desk, MemoryDesk, TextRoom};
 use lop_fix::Fixings;
 use lop_leaf::{Evaluated, LeafRecord, PairRoom, Ticket, packing};
@@ -130,19 +135,24 @@ fn text_of(alloc: Global, core: &Core) -> Result<Option<MemoryDesk>, Fail> {
 #[test]
 fn a_root_alone(rt: HostRuntime) -> Result<(), Fail> {
     let alloc = rt.alloc();
-    let entries: [i64; 9] = [0, 5, 1, 2, 0, 4, 3, 1, 0];
-    let order = Order::first(alloc, 3)?;
-    let weights = Weights::new(3, entries.to_vec(alloc)?).expect(&rt, "weights");
-    assert!(rt; order.n() == weights.n());
-    let core = Core::prepare(alloc, &weights, &order, 5)?;
-    let mut desk = MemoryDesk::new(alloc, Vec::new(alloc), Vec::new(alloc), 100)?;
-    let mut room = TextRoom::new(alloc)?;
-    let mut names = WriteRoom::new(alloc, 5)?;
-    assert!(rt; desk.create("c").is_ok());
-    assert!(rt; core.budget() <= 5);
-    assert!(rt; write_certificate(&core, &mut desk, &mut room, &mut names).is_ok());
-    assert!(rt; desk.finish().is_ok());
+    let core = search(alloc, &[0, 5, 1, 2, 0, 4, 3, 1, 0])?.expect(&rt, "core");
+    let desk = text_of(alloc, &core)?.expect(&rt, "desk");
     let text = b"lopcert 2\nobjects 3\norder 1 2 3\nvalue 10\nbound 12\ncuts 0\nrecords 1\nrecord 1 0\nleaf 1\nend\n";
+    assert_eq!(rt; desk.file("c"), Some(text.as_slice()));
+    Ok(())
+}
+
+// The root's record has a dicycle, and its first child's has no term. Two leaves share the first child's record, which
+// is used first, and the second child is a leaf with the root's.
+#[test]
+fn shared_records(rt: HostRuntime) -> Result<(), Fail> {
+    let alloc = rt.alloc();
+    let mut core = search(alloc, &[0, 1, 5, 3, 0, 1, 2, 4, 0])?.expect(&rt, "core");
+    assert!(rt; evaluate_one(alloc, &mut core)?);
+    assert!(rt; evaluate_one(alloc, &mut core)?);
+    let desk = text_of(alloc, &core)?.expect(&rt, "desk");
+    let text = b"lopcert 2\nobjects 3\norder 1 2 3\nvalue 7\nbound 10\ncuts 1\ndicycle 1 3 2\n\
+        records 2\nrecord 1 0\nrecord 1 1 1 2\nsplit 1 2\nsplit 1 3\nleaf 1\nleaf 1\nleaf 2\nend\n";
     assert_eq!(rt; desk.file("c"), Some(text.as_slice()));
     Ok(())
 }

@@ -89,46 +89,6 @@ pub fn write_body<D: Desk>(
     room: &mut TextRoom,
 ) -> Result<(), DeskFailed>
     requires making { IsMaking (D.told desk.old) }
-    requires inside { All (λ node. node < length core.now.state.nodes) users.now }
-    requires few_cuts { length core.now.book.cuts ≤ 65536 }
-    ensures effect { WritesAll (D.told desk.old) (D.told desk.new) (text_of (map (user_line core.now.book.records) users.now)) result }
-    ensures cause { HasCause (D.faults desk.old) (D.faults desk.new) result }
-{
-    for node in users {
-        fill_record(core, *node, numbers);
-        write_line(CertWord::RecordLine, numbers, desk, room)?;
-    }
-    Ok(())
-}
-
-/// Writes how many records there are, and the records.
-fn write_users<D: Desk>(
-    core: &Core,
-    users: &[u32],
-    numbers: &mut Numbers,
-    desk: &mut D,
-    room: &mut TextRoom,
-) -> Result<(), DeskFailed>
-    requires making { IsMaking (D.told desk.old) }
-    requires inside { All (λ node. node < length core.now.state.nodes) users.now }
-    requires few { length users.now ≤ 1000001 }
-    requires few_cuts { length core.now.book.cuts ≤ 65536 }
-    ensures effect { WritesAll (D.told desk.old) (D.told desk.new) (text_of (user_lines core.now.book.records users.now)) result }
-    ensures cause { HasCause (D.faults desk.old) (D.faults desk.new) result }
-{
-    write_short_line(CertWord::RecordsLine, &[users.len() as i64], desk, room)?;
-    write_records(core, users, numbers, desk, room)
-}
-
-/// Writes the cuts, the records, the tree and the end.
-pub fn write_body<D: Desk>(
-    core: &Core,
-    names: &Names,
-    numbers: &mut Numbers,
-    desk: &mut D,
-    room: &mut TextRoom,
-) -> Result<(), DeskFailed>
-    requires making { IsMaking (D.told desk.old) }
     requires few_objects { core.now.problem.weights.size ≤ MAX_OBJECTS }
     requires whole { WholeTree core.now.state.nodes }
     requires linked { AreLinked core.now.state.nodes }

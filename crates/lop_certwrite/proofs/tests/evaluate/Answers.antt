@@ -24,8 +24,8 @@ pub judge-requires-clause-into : goal.judge-requires-clause-into
 judge-requires-clause-into c =
     c.requires.into ∙ ap (λ (m : Matrix). m.size) (sym (c.weights.ensures ∙ ap (λ (v : CoreFields). v.problem.weights) c.in-Node.ensures.step.1))
 
-pub report-requires : goal.report-requires
-report-requires c =
+pub report-reply-requires : goal.report-reply-requires
+report-reply-requires c =
     let sound : IsSoundResult c.take.new.self.problem.weights c.take.new.into c.judge.new.into = subst (λ (m : Matrix). IsSoundResult m c.take.new.into c.judge.new.into) c.weights.ensures (c.if-not-judge.ensures refl) in
     record {
       sound = λ out. record {

@@ -10,7 +10,7 @@ use Rattle.lop_certtext.proofs.AcceptedText.{IsCheckAnswer-certificate_text}
 use Rattle.lop_words.specs.Command.{command_of}
 use Rattle.lop_words.proofs.CommandLemmas.{names_apart, limits}
 use Rattle.lop_tool.specs.Names.{World, NamedFile, file_named, put_file, Rose, IsMissing, Matrix, CheckAnswer, accepted}
-use Rattle.lop_tool.specs.Names.{certificate_text, IsTreeCertificate, is_optimal, Command, Solve, Check, Format, Instance}
+use Rattle.lop_tool.specs.Names.{certificate_text, Two, IsTreeCertificate, is_optimal, Command, Solve, Check, Format, Instance}
 use Rattle.lop_tool.specs.Names.{IsCheckAnswer}
 use Rattle.lop_tool.specs.declared.status.Status.TheVariants as status
 use Rattle.lop_tool.specs.{Status.number, Status.done_status, Status.IsDoneNumber, Told.files_of, Told.Leaves}
@@ -47,19 +47,19 @@ accepted_ends format file name v new before now n input value bound ended checke
 -- ---- the certificate of a search
 
 -- what stands under the name is accepted with the numbers that were found
-left_accepted : (format : Format) (file name : List ℕ) (nodes : ℕ) (w v : World) (optimal : Bool) (text : List ℕ) (left : Option NamedFile) → name ≢ file → nodes ≤ 1000000 → (s : Solves format file nodes (Some name) (Some w.files) optimal text left) → v.files ≡ put_file (record { name = name; bytes = certificate_text s.left_is.certificate }) w.files
+left_accepted : (format : Format) (file name : List ℕ) (nodes : ℕ) (w v : World) (optimal : Bool) (text : List ℕ) (left : Option NamedFile) → name ≢ file → nodes ≤ 1000000 → (s : Solves format file nodes (Some name) (Some w.files) optimal text left) → v.files ≡ put_file (record { name = name; bytes = certificate_text Two s.left_is.certificate }) w.files
     → IsChecked format file name v.files s.input (accepted s.found.value s.found.bound)
 left_accepted format file name nodes w v optimal text left apart few s files =
     let c = s.left_is.certificate in
-    let made : NamedFile = record { name = name; bytes = certificate_text c } in
+    let made : NamedFile = record { name = name; bytes = certificate_text Two c } in
     let holds : IsTreeCertificate s.input.weights c = subst (λ (C : Matrix). IsTreeCertificate C c) s.search.weights_are s.left_is.true_of.holds in
-    let short = length-certificate_of s.input.weights nodes s.found s.core c few s.search s.left_is.true_of.of_core s.left_is.true_of.holds in
-    let answer : IsCheckAnswer s.input.weights (certificate_text c) (accepted c.value c.bound) = IsCheckAnswer-certificate_text s.input.weights s.search.searched.weights c holds short in
+    let short = length-certificate_of s.input.weights nodes s.found s.core c few s.search s.left_is.true_of.of_core s.left_is.true_of.holds s.left_is.true_of.has_text in
+    let answer : IsCheckAnswer s.input.weights (certificate_text Two c) (accepted c.value c.bound) = IsCheckAnswer-certificate_text s.input.weights s.search.searched.weights c holds Two s.left_is.true_of.has_text short in
     let value : c.value ≡ s.found.value = s.left_is.true_of.of_core.value_is ∙ ap (λ (x : Found). x.value) (sym s.search.found_is) in
     let bound : c.bound ≡ s.found.bound = s.left_is.true_of.of_core.bound_is ∙ ap (λ (x : Found). x.bound) (sym s.search.found_is) in
     let numbers : accepted c.value c.bound ≡ accepted s.found.value s.found.bound = ap (λ (x : ℤ). accepted x c.bound) value ∙ ap (accepted s.found.value) bound in record {
       accepted_file = ap (λ (fs : List NamedFile). input_named format fs file) files ∙ ap (reading_of format) (named_put_other made w.files file apart) ∙ s.accepted_file;
-      given = record { bytes = certificate_text c; there = ap (λ (fs : List NamedFile). file_named fs name) files ∙ named_put made w.files; answer_is = subst (λ (a : CheckAnswer). IsCheckAnswer s.input.weights (certificate_text c) a) numbers answer };
+      given = record { bytes = certificate_text Two c; there = ap (λ (fs : List NamedFile). file_named fs name) files ∙ named_put made w.files; answer_is = subst (λ (a : CheckAnswer). IsCheckAnswer s.input.weights (certificate_text Two c) a) numbers answer };
     }
 
 -- the file that was left is among those told after
@@ -75,7 +75,7 @@ trip format file name nodes w None new before between now solved checked apart f
     let files = files_left w None d.text d.left _ d.kept.left_is.file_is d.leaves in absurd cc
 trip format file name nodes w (Some v) new before between now solved checked apart few d second later calm =
     let told = files_left w (Some v) d.text d.left _ d.kept.left_is.file_is d.leaves in
-    let files : v.files ≡ put_file (record { name = name; bytes = certificate_text d.kept.left_is.certificate }) w.files = cc in
+    let files : v.files ≡ put_file (record { name = name; bytes = certificate_text Two d.kept.left_is.certificate }) w.files = cc in
     let checked_is = left_accepted format file name nodes w v d.optimal d.text d.left apart few d.kept files in
     elim (accepted_ends format file name v new between now checked d.kept.input d.kept.found.value d.kept.found.bound second checked_is (λ rose. calm (rose_from before between now later rose))) [
       | inl is ↦ inl (is ∙ sym (d.number_is ∙ ap (λ (b : Bool). number (done_status b)) d.kept.optimal_is))

@@ -1,7 +1,7 @@
 -- How the steps of `solve` come to its reply.
 use Rattle.std.proofs.Common.{◌≡◌, ℕ, List, Option, None, Some, IfSome, IfOk, Result, Ok, Err, MatchResult, refl, sym, ◌∙◌, ap, subst}
-use Rattle.lop_tool.specs.Names.{World, NamedFile, with_finished, with_written, CoreFields, certificate_text, Solve, Format}
-use Rattle.lop_tool.specs.Names.{Instance, Input, Solution}
+use Rattle.lop_tool.specs.Names.{World, NamedFile, with_finished, with_written, CoreFields, certificate_text, Two, Solve}
+use Rattle.lop_tool.specs.Names.{Format, Instance, Input, Solution}
 use Rattle.lop_tool.specs.{Status.done_status, Told.files_of, Told.at_rest, Told.with_file, Told.LeavesAll}
 use Rattle.lop_tool.specs.{Input.input_named, Search.found_of, Search.IsSearchOf, Certificate.HasBegun}
 use Rattle.lop_tool.specs.{Certificate.WritesCertificate, Certificate.IsCertificateFile, Certificate.LeavesCertificate}
@@ -38,11 +38,11 @@ certificate_file : (name : List ℕ) (core : CoreFields) (old new : Option World
 certificate_file name core old new begun writes = (Some made, record { certificate = writes.certificate; true_of = writes.true_of; file_is = refl }, ap at_rest writes.finished ∙ finished_file old begun)
   where
     made : NamedFile
-    made = record { name = name; bytes = certificate_text writes.certificate }
+    made = record { name = name; bytes = certificate_text Two writes.certificate }
 
-    finished_file : (told : Option World) → HasBegun (Some name) told → at_rest (with_finished (with_written (certificate_text writes.certificate) told)) ≡ with_file (Some (record { name = name; bytes = certificate_text writes.certificate })) (at_rest told)
+    finished_file : (told : Option World) → HasBegun (Some name) told → at_rest (with_finished (with_written (certificate_text Two writes.certificate) told)) ≡ with_file (Some (record { name = name; bytes = certificate_text Two writes.certificate })) (at_rest told)
     finished_file None begun = refl
-    finished_file (Some w) begun = ap (λ (m : Option NamedFile). at_rest (with_finished (with_written (certificate_text writes.certificate) (Some (record w { made = m }))))) begun
+    finished_file (Some w) begun = ap (λ (m : Option NamedFile). at_rest (with_finished (with_written (certificate_text Two writes.certificate) (Some (record w { made = m }))))) begun
 
 certificate_under : {E : Type 0} (name : List ℕ) (core : CoreFields) (old new : Option World) (r : Result (Unit {0}) E) → HasBegun (Some name) old → MatchResult r (λ _. WritesCertificate core old new) (λ _. LeavesAll old new) → LeavesFile (IsCertificateFile name core) old new r
 certificate_under name core old new (Ok _) begun writes = certificate_file name core old new begun writes

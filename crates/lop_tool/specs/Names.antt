@@ -1,6 +1,7 @@
 -- The words of the layers below, and of this crate's types, as its definitions and proofs name them.
 pub use Rattle.lop_certtext.specs.Answer.{CheckAnswer, accepted, rejected, too_long, IsCheckAnswer}
-pub use Rattle.lop_certtext.specs.Certificate.{Certificate, certificate_text, IsTreeCertificate, certificate_lines}
+pub use Rattle.lop_certtext.specs.Certificate.{Certificate, certificate_text, HasText, IsTreeCertificate, certificate_lines}
+pub use Rattle.lop_certtext.specs.declared.version.CertVersion.TheVariants.{Two}
 pub use Rattle.lop_certtext.specs.Tree.{tree_size, Tree, tree_lines}
 pub use Rattle.lop_certwrite.specs.CoreTree.{IsCertificateOf, NodeTree, one_node, two_below, node_count, certificate_tree}
 pub use Rattle.lop_climb.specs.Insertion.{IsClimbedFrom}

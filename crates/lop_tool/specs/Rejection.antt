@@ -2,7 +2,8 @@
 use Rattle.std.specs.Prelude.{ℕ, List, ◌++◌, codes, decimal, ℤ}
 use Rattle.std.specs.Fmt.{signed_decimal}
 use Rattle.lop_certtext.specs.declared.reason.Reason.{Reason}
-use Rattle.lop_certtext.specs.declared.reason.Reason.TheVariants.{Short, Spelling, Size, OrderLine, Value, Cut, SplitLine, Leaf, High, Tail}
+use Rattle.lop_certtext.specs.declared.reason.Reason.TheVariants.{Short, Spelling, Size, OrderLine, Value, Cut, RecordLine, SplitLine, Leaf}
+use Rattle.lop_certtext.specs.declared.reason.Reason.TheVariants.{High, Tail}
 use Rattle.lop_tool.specs.declared.rejection.Rejection.{Rejection}
 use Rattle.lop_tool.specs.declared.rejection.Rejection.TheVariants.{Certificate}
 
@@ -17,6 +18,7 @@ reason_text Size = codes "size"
 reason_text OrderLine = codes "order"
 reason_text (Value stated found) = two_numbers (codes "value ") stated found
 reason_text Cut = codes "cut"
+reason_text RecordLine = codes "record"
 reason_text SplitLine = codes "split"
 reason_text Leaf = codes "leaf"
 reason_text (High upper limit) = two_numbers (codes "high ") upper limit

@@ -1,10 +1,10 @@
 -- What `solve` promises.
 use Rattle.std.specs.Prelude.{◌≡◌, ◌≤◌, ◌^◌, ℕ, Bool, List, length, unsigned_abs, Option, Some, IfSome, Ok, [], ◌∷◌}
-use Rattle.lop_tool.specs.Names.{NamedFile, CoreFields, is_optimal, solve_text, Format, Instance, Solution, Input}
+use Rattle.lop_tool.specs.Names.{World, NamedFile, CoreFields, is_optimal, solve_text, Format, Instance, Solution, Input}
 use Rattle.lop_report.specs.declared.decimal.TheConstants.{MAX_DECIMALS}
 use Rattle.lop_tool.specs.Input.{input_named, IsOfSize}
 use Rattle.lop_tool.specs.Search.{Found, found_of, IsSearchOf}
-use Rattle.lop_tool.specs.Certificate.{LeavesCertificate}
+use Rattle.lop_tool.specs.Certificate.{HasBegun, LeavesCertificate}
 use Rattle.lop_tool.specs.Steps.{Steps, RefusesFirst, NoMore}
 
 -- the text of what was found in an instance
@@ -44,6 +44,10 @@ pub record SolvesInstance (input : Instance) (nodes : ℕ) (cert : Option (List 
   pub input_is : x.input ≡ input
   pub cert_is : x.cert ≡ cert
   pub search : IsSearchOf input.weights nodes (found_of x.core) x.core
+
+-- what leaving its file asks: the file was begun, if one is left, and the room for writing is large enough
+abbrev pub CanLeave : Solution → Option World → Type 0
+CanLeave x told = HasBegun x.cert told × (x.core.problem.budget ≤ x.names)
 
 -- what printing asks of it
 pub record IsPrintable (x : Solution) : Type 0 where

@@ -1,5 +1,5 @@
 // The certificate of a search, in a file of its own.
-ghost use Rattle.std.specs.Prelude.{◌≤◌, MatchResult, IfOk, IfErr};
+ghost use Rattle.std.specs.Prelude.{◌≡◌, ◌≤◌, MatchResult, IfOk, IfErr};
 ghost use Rattle.lop_desk.specs.Causes.{HasCause};
 ghost use Rattle.lop_desk.specs.Desk.{IsMaking};
 ghost use Rattle.lop_tool.specs.Told.{LeavesAll};
@@ -8,7 +8,7 @@ ghost use Rattle.lop_tool.specs.Steps.{BeginCause};
 ghost use Rattle.lop_tool.specs.Ended.{LeavesFile};
 
 use crate::stop::Stop;
-use lop_certwrite::write_certificate;
+use lop_certwrite::{WriteRoom, write_certificate};
 use lop_core::Core;
 use lop_desk::{Desk, DeskFailed, OpenFault, TextRoom};
 use lop_words::NameWord;
@@ -37,13 +37,16 @@ pub fn leave_certificate<D: Desk>(
     core: &Core,
     desk: &mut D,
     room: &mut TextRoom,
+    names: &mut WriteRoom,
 ) -> Result<(), DeskFailed>
-    requires { HasBegun cert.now (D.told desk.old) }
+    requires begun { HasBegun cert.now (D.told desk.old) }
+    requires for_budget { core.now.problem.budget ≤ names.old }
     ensures effect { LeavesFile (LeavesCertificate cert.now core.now) (D.told desk.old) (D.told desk.new) result }
     ensures cause { HasCause (D.faults desk.old) (D.faults desk.new) result }
+    ensures same_room { names.new ≡ names.old }
 {
     match cert {
-        Some(_) => finish_certificate(core, desk, room),
+        Some(_) => finish_certificate(core, desk, room, names),
         None => Ok(()),
     }
 }
@@ -52,11 +55,14 @@ fn finish_certificate<D: Desk>(
     core: &Core,
     desk: &mut D,
     room: &mut TextRoom,
+    names: &mut WriteRoom,
 ) -> Result<(), DeskFailed>
-    requires { IsMaking (D.told desk.old) }
+    requires making { IsMaking (D.told desk.old) }
+    requires for_budget { core.now.problem.budget ≤ names.old }
     ensures effect { MatchResult result (λ _. WritesCertificate core.now (D.told desk.old) (D.told desk.new)) (λ _. LeavesAll (D.told desk.old) (D.told desk.new)) }
     ensures cause { HasCause (D.faults desk.old) (D.faults desk.new) result }
+    ensures same_room { names.new ≡ names.old }
 {
-    write_certificate(core, desk, room)?;
+    write_certificate(core, desk, room, names)?;
     desk.finish()
 }

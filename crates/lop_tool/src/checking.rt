@@ -56,7 +56,11 @@ impl Reply for Outcome {
         }
     }
 
-    fn leave_file<D: Desk>(&self, _desk: &mut D, _room: &mut TextRoom) -> Result<(), DeskFailed> {
+    fn leave_file<D: Desk>(
+        &mut self,
+        _desk: &mut D,
+        _room: &mut TextRoom,
+    ) -> Result<(), DeskFailed> {
         Ok(())
     }
 
@@ -85,7 +89,7 @@ pub fn check<D: Desk>(
     ensures ended { Ended (Some (Check format file.now cert.now)) (D.told desk.old) (D.told desk.new) (D.faults desk.old) (D.faults desk.new) (number result) }
 {
     match check_file(alloc, format, file, cert, desk) {
-        Ok(outcome) => deliver(&outcome, desk, room),
+        Ok(mut outcome) => deliver(&mut outcome, desk, room),
         Err(stop) => halt(stop, desk, room),
     }
 }

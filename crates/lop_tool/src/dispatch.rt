@@ -118,7 +118,7 @@ fn refuse_words<D: Desk>(desk: &mut D, room: &mut TextRoom) -> Status
     ensures later { D.faults desk.old ≤ D.faults desk.new }
     ensures ended { Ended None (D.told desk.old) (D.told desk.new) (D.faults desk.old) (D.faults desk.new) (number result) }
 {
-    deliver(&NoCommand, desk, room)
+    deliver(&mut NoCommand, desk, room)
 }
 
 // Each command is a module of its own.

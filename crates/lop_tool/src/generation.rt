@@ -53,7 +53,11 @@ impl Reply for Generation {
         done_status(self.core.best(), self.core.bound())
     }
 
-    fn leave_file<D: Desk>(&self, _desk: &mut D, _room: &mut TextRoom) -> Result<(), DeskFailed> {
+    fn leave_file<D: Desk>(
+        &mut self,
+        _desk: &mut D,
+        _room: &mut TextRoom,
+    ) -> Result<(), DeskFailed> {
         Ok(())
     }
 
@@ -82,7 +86,7 @@ pub fn generated<R: Threads + Sync, D: Desk, G: Gate>(
     ensures ended { Ended (Some (Gen seed n)) (D.told desk.old) (D.told desk.new) (D.faults desk.old) (D.faults desk.new) (number result) }
 {
     match search_generated(means, seed, n) {
-        Ok(generation) => deliver(&generation, desk, room),
+        Ok(mut generation) => deliver(&mut generation, desk, room),
         Err(AllocError) => Status::Memory,
     }
 }

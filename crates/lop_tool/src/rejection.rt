@@ -60,6 +60,7 @@ fn put_reason(reason: Reason, room: &mut TextRoom)
         Reason::Size => room.put(b"size"),
         Reason::OrderLine => room.put(b"order"),
         Reason::Cut => room.put(b"cut"),
+        Reason::RecordLine => room.put(b"record"),
         Reason::SplitLine => room.put(b"split"),
         Reason::Leaf => room.put(b"leaf"),
         Reason::Tail => room.put(b"tail"),

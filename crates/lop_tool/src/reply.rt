@@ -33,10 +33,12 @@ pub trait Reply {
     fn status(&self) -> Status
         ensures { result ≡ status self.now };
 
-    /// Writes the file that was begun, if one is left, and finishes it. After an Err the files are as before.
-    fn leave_file<D: Desk>(&self, desk: &mut D, room: &mut TextRoom) -> Result<(), DeskFailed>
-        requires { begun self.now (D.told desk.old) }
-        ensures effect { LeavesFile (leaves self.now) (D.told desk.old) (D.told desk.new) result }
+    /// Writes the file that was begun, if one is left, and finishes it. After an Err the files are as before. The reply
+    /// stays as it is.
+    fn leave_file<D: Desk>(&mut self, desk: &mut D, room: &mut TextRoom) -> Result<(), DeskFailed>
+        requires { begun self.old (D.told desk.old) }
+        ensures same { self.new ≡ self.old }
+        ensures effect { LeavesFile (leaves self.old) (D.told desk.old) (D.told desk.new) result }
         ensures cause { HasCause (D.faults desk.old) (D.faults desk.new) result };
 
     /// Prints the text.
@@ -47,11 +49,11 @@ pub trait Reply {
 }
 
 /// Leaves the reply's file, prints its text, and gives its status.
-pub fn deliver<R: Reply, D: Desk>(reply: &R, desk: &mut D, room: &mut TextRoom) -> Status
-    requires printable { R.printable reply.now }
-    requires begun { R.begun reply.now (D.told desk.old) }
+pub fn deliver<R: Reply, D: Desk>(reply: &mut R, desk: &mut D, room: &mut TextRoom) -> Status
+    requires printable { R.printable reply.old }
+    requires begun { R.begun reply.old (D.told desk.old) }
     ensures later { D.faults desk.old ≤ D.faults desk.new }
-    ensures delivered { Delivered (R.leaves reply.now) (R.text reply.now) (R.status reply.now) (D.told desk.old) (D.told desk.new) (D.faults desk.old) (D.faults desk.new) result }
+    ensures delivered { Delivered (R.leaves reply.old) (R.text reply.old) (R.status reply.old) (D.told desk.old) (D.told desk.new) (D.faults desk.old) (D.faults desk.new) result }
 {
     match reply.leave_file(desk, room) {
         Ok(()) => match reply.print(desk, room) {
@@ -68,7 +70,7 @@ pub fn halt<D: Desk>(stop: Stop, desk: &mut D, room: &mut TextRoom) -> Status
     ensures stopped { Stopped stop (D.told desk.old) (D.told desk.new) (D.faults desk.old) (D.faults desk.new) result }
 {
     match stop {
-        Stop::Refused(refusal) => deliver(&refusal, desk, room),
+        Stop::Refused(mut refusal) => deliver(&mut refusal, desk, room),
         Stop::Fault => Status::Fault,
         Stop::Memory => Status::Memory,
     }
@@ -94,7 +96,11 @@ impl Reply for Refusal {
         Status::Refused
     }
 
-    fn leave_file<D: Desk>(&self, _desk: &mut D, _room: &mut TextRoom) -> Result<(), DeskFailed> {
+    fn leave_file<D: Desk>(
+        &mut self,
+        _desk: &mut D,
+        _room: &mut TextRoom,
+    ) -> Result<(), DeskFailed> {
         Ok(())
     }
 
@@ -131,7 +137,11 @@ impl Reply for NoCommand {
         Status::NoCommand
     }
 
-    fn leave_file<D: Desk>(&self, _desk: &mut D, _room: &mut TextRoom) -> Result<(), DeskFailed> {
+    fn leave_file<D: Desk>(
+        &mut self,
+        _desk: &mut D,
+        _room: &mut TextRoom,
+    ) -> Result<(), DeskFailed> {
         Ok(())
     }
 

@@ -7,8 +7,8 @@ ghost use Rattle.lop_report.specs.declared.decimal.TheConstants.{MAX_DECIMALS};
 ghost use Rattle.lop_tool.specs.Status.{number, done_status};
 ghost use Rattle.lop_tool.specs.Told.{files_of, LeavesAll};
 ghost use Rattle.lop_tool.specs.Input.{IsOfSize};
-ghost use Rattle.lop_tool.specs.Certificate.{HasBegun, LeavesCertificate};
-ghost use Rattle.lop_tool.specs.Solve.{SolvesInstance, IsPrintable, solution_text, solution_optimal};
+ghost use Rattle.lop_tool.specs.Certificate.{LeavesCertificate};
+ghost use Rattle.lop_tool.specs.Solve.{CanLeave, SolvesInstance, IsPrintable, solution_text, solution_optimal};
 ghost use Rattle.lop_tool.specs.Reply.{IsRight};
 ghost use Rattle.lop_tool.specs.Steps.{BeginCause};
 ghost use Rattle.lop_tool.specs.Ended.{Ended, StopCause};
@@ -20,12 +20,12 @@ use crate::reply::{Reply, deliver, halt};
 use crate::search::{Means, Search};
 use crate::status::{Status, done_status};
 use crate::stop::Stop;
+use lop_certwrite::WriteRoom;
 use lop_core::Core;
 use lop_desk::{Desk, DeskFailed, TextRoom};
 use lop_pool::Gate;
 use lop_report::{Answer, print_answer};
 use lop_words::{Format, NameWord};
-use std::alloc::AllocError;
 use std::thread::Threads;
 
 /// The search of an instance's weights.
@@ -35,12 +35,14 @@ pub struct Solution {
     pub core: Core,
     /// The name under which the certificate is left, if one is given.
     pub cert: Option<NameWord>,
+    /// The room for writing it.
+    pub names: WriteRoom,
 }
 
 impl Reply for Solution {
     ghost use Rattle.lop_tool.specs.Status.{done_status};
-    ghost use Rattle.lop_tool.specs.Certificate.{HasBegun, LeavesCertificate};
-    ghost use Rattle.lop_tool.specs.Solve.{IsPrintable, solution_text, solution_optimal};
+    ghost use Rattle.lop_tool.specs.Certificate.{LeavesCertificate};
+    ghost use Rattle.lop_tool.specs.Solve.{CanLeave, IsPrintable, solution_text, solution_optimal};
 
     ghost text = { solution_text };
 
@@ -48,7 +50,7 @@ impl Reply for Solution {
 
     ghost leaves = { λ x. LeavesCertificate x.cert x.core };
 
-    ghost begun = { λ x told. HasBegun x.cert told };
+    ghost begun = { CanLeave };
 
     ghost printable = { IsPrintable };
 
@@ -56,8 +58,8 @@ impl Reply for Solution {
         done_status(self.core.best(), self.core.bound())
     }
 
-    fn leave_file<D: Desk>(&self, desk: &mut D, room: &mut TextRoom) -> Result<(), DeskFailed> {
-        leave_certificate(&self.cert, &self.core, desk, room)
+    fn leave_file<D: Desk>(&mut self, desk: &mut D, room: &mut TextRoom) -> Result<(), DeskFailed> {
+        leave_certificate(&self.cert, &self.core, desk, room, &mut self.names)
     }
 
     fn print<D: Desk>(&self, desk: &mut D, room: &mut TextRoom) -> Result<(), DeskFailed> {
@@ -87,8 +89,9 @@ pub fn answer_of(core: &Core, decimals: u8) -> Answer
     }
 }
 
-/// Solves the named file by so many workers, with so many nodes to evaluate at most. Where there is the name of a
-/// certificate, its file is begun before the search.
+/// Solves the named file by so many workers, with so many nodes to evaluate at most. All memory, also that for writing a
+/// certificate, is taken before the search. Where there is the name of a certificate, its file is begun before the
+/// search too.
 pub fn solve<R: Threads + Sync, D: Desk, G: Gate>(
     means: &Means<R, G>,
     format: Format,
@@ -107,7 +110,7 @@ pub fn solve<R: Threads + Sync, D: Desk, G: Gate>(
     ensures ended { Ended (Some (Solve format file.now workers nodes cert)) (D.told desk.old) (D.told desk.new) (D.faults desk.old) (D.faults desk.new) (number result) }
 {
     match solve_file(means, format, file, workers, nodes, cert, desk) {
-        Ok(solution) => deliver(&solution, desk, room),
+        Ok(mut solution) => deliver(&mut solution, desk, room),
         Err(stop) => halt(stop, desk, room),
     }
 }
@@ -129,7 +132,7 @@ fn solve_file<R: Threads + Sync, D: Desk, G: Gate>(
     ensures later { D.faults desk.old ≤ D.faults desk.new }
     ensures right { IfOk result (λ x. IsRight (files_of (D.told desk.old)) (Some (Solve format file.now workers nodes cert)) (done_status (solution_optimal x)) (solution_text x) (LeavesCertificate x.cert x.core)) }
     ensures printable { IfOk result IsPrintable }
-    ensures begun { IfOk result (λ x. HasBegun x.cert (D.told desk.new)) }
+    ensures begun { IfOk result (λ x. CanLeave x (D.told desk.new)) }
     ensures stop { IfErr result (StopCause (Solve format file.now workers nodes cert) (D.told desk.old) (D.faults desk.old) (D.faults desk.new)) }
 {
     match read_input(means.alloc, format, file, desk) {
@@ -157,17 +160,21 @@ fn solve_instance<R: Threads + Sync, D: Desk, G: Gate>(
     ensures later { D.faults desk.old ≤ D.faults desk.new }
     ensures solves { IfOk result (SolvesInstance input nodes cert) }
     ensures printable { IfOk result IsPrintable }
-    ensures begun { IfOk result (λ x. HasBegun x.cert (D.told desk.new)) }
+    ensures begun { IfOk result (λ x. CanLeave x (D.told desk.new)) }
     ensures stop { IfErr result (BeginCause (D.faults desk.old) (D.faults desk.new)) }
 {
-    match Search::prepare(means.alloc, &input.weights, workers, nodes) {
-        Ok(search) => match begin_certificate(&cert, desk) {
-            Ok(()) => {
-                let core = search.run(means, &input.weights);
-                Ok(Solution { input, core, cert })
-            }
-            Err(stop) => Err(stop),
-        },
-        Err(AllocError) => Err(Stop::Memory),
-    }
+    let Ok(search) = Search::prepare(means.alloc, &input.weights, workers, nodes) else {
+        return Err(Stop::Memory);
+    };
+    let Ok(names) = WriteRoom::new(means.alloc, nodes) else {
+        return Err(Stop::Memory);
+    };
+    begin_certificate(&cert, desk)?;
+    let core = search.run(means, &input.weights);
+    Ok(Solution {
+        input,
+        core,
+        cert,
+        names,
+    })
 }

@@ -1,4 +1,5 @@
 // Whole runs: what is printed, and how they end.
+mod certificates;
 mod hostile;
 
 use crate::{Gate, OpenGate, run, solve_then_check};
@@ -365,67 +366,16 @@ const SECOND_FILES: &[Row] = &[
         b"objects 3\nvalue 10\ntotal 27\nlinearity 0.3703\nvoters 9\ndisagreements 17\n",
     ),
     (
-        TIE,
-        b"lopcert 1\nobjects 3\norder 1 2 3\nvalue 4\nbound 6\ncuts 0\nleaf 1 0\nend\n",
-        CHECK,
-        6,
-        b"accepted\nvalue 4\nbound 6\nstatus bounded\n",
-    ),
-    TIGHT_ROW,
-    (
         HALVES,
         b"2 1\n",
         VALUE,
         0,
         b"objects 2\nvalue 0.25\ntotal 1.75\nlinearity 0.1428\n",
     ),
-    (
-        HALVES,
-        b"lopcert 1\nobjects 2\norder 1 2\nvalue 150\nbound 200\ncuts 0\nleaf 1 0\nend\n",
-        CHECK,
-        6,
-        b"accepted\nvalue 1.50\nbound 2.00\nstatus bounded\n",
-    ),
-    (
-        HALVES,
-        b"lopcert 1\nobjects 2\norder 1 2\nvalue 151\nbound 200\ncuts 0\nleaf 1 0\nend\n",
-        CHECK,
-        1,
-        b"rejected line 4 value 151 150\n",
-    ),
-    (
-        TIE,
-        b"lopcert 1\nobjects 3\norder 1 2 3\nvalue 4\nbound 5\ncuts 0\nleaf 1 0\nend\n",
-        CHECK,
-        1,
-        b"rejected line 7 high 6 6\n",
-    ),
-    (
-        TIE,
-        b"lopcert 1\nobjects 3\norder 1 2 3\nvalue 04\nbound 6\ncuts 0\nleaf 1 0\nend\n",
-        CHECK,
-        1,
-        b"rejected line 4 spelling\n",
-    ),
-    (
-        TIE,
-        b"lopcert 1\nobjects 3\norder 1 2 3\nvalue 5\nbound 6\ncuts 0\nleaf 1 0\nend\n",
-        CHECK,
-        1,
-        b"rejected line 4 value 5 4\n",
-    ),
-    (
-        TIE,
-        b"lopcert 1\nobjects 3\norder 1 2 3\nvalue 4\nbound 6\ncuts 0\nleaf 1 0\nend\nx\n",
-        CHECK,
-        1,
-        b"rejected line 9 tail\n",
-    ),
-    (TIE, b"", CHECK, 1, b"rejected line 1 short\n"),
 ];
 
 #[test]
-fn orders_and_certificates(rt: HostRuntime) -> Result<(), Fail> {
+fn orders_of_files(rt: HostRuntime) -> Result<(), Fail> {
     all_end(&rt, rt.alloc(), SECOND_FILES)
 }
 

@@ -47,7 +47,11 @@ impl Reply for Valuation {
         Status::Done
     }
 
-    fn leave_file<D: Desk>(&self, _desk: &mut D, _room: &mut TextRoom) -> Result<(), DeskFailed> {
+    fn leave_file<D: Desk>(
+        &mut self,
+        _desk: &mut D,
+        _room: &mut TextRoom,
+    ) -> Result<(), DeskFailed> {
         Ok(())
     }
 
@@ -76,7 +80,7 @@ pub fn weigh<D: Desk>(
     ensures ended { Ended (Some (Value format file.now order_file.now)) (D.told desk.old) (D.told desk.new) (D.faults desk.old) (D.faults desk.new) (number result) }
 {
     match weigh_file(alloc, format, file, order_file, desk) {
-        Ok(valuation) => deliver(&valuation, desk, room),
+        Ok(mut valuation) => deliver(&mut valuation, desk, room),
         Err(stop) => halt(stop, desk, room),
     }
 }

@@ -1,4 +1,5 @@
 // Faults one by one, small steps, and texts that are cut or mean harm.
+use super::certificates::NAMED;
 use super::{
     CHECK, LUNCH_ROW, REVERSED_ROW, Row, SECTORS, SECTORS_SOLVED, SOLVE, TIE, TIGHT, TIGHT_ROW,
     desk, ends, ends_on, status,
@@ -11,7 +12,7 @@ use std::thread::Threads;
 
 /// The certificate of the sectors.
 const SECTORS_CERTIFICATE: &[u8] =
-    b"lopcert 1\nobjects 3\norder 1 2 3\nvalue 10\nbound 10\ncuts 1\ndicycle 1 2 3\nleaf 1 1 1 2\nend\n";
+    b"lopcert 2\nobjects 3\norder 1 2 3\nvalue 10\nbound 10\ncuts 1\ndicycle 1 2 3\nrecords 1\nrecord 1 1 1 2\nleaf 1\nend\n";
 
 /// Whether these are whole lines from the front of the text, perhaps none, and not all of it.
 fn is_front(printed: &[u8], text: &[u8]) -> bool {
@@ -103,17 +104,33 @@ fn front_of(text: &[u8], lines: usize) -> &[u8] {
     text
 }
 
+// The front of a certificate with so many lines is rejected where the next is due.
+fn is_short<R: Abort + Threads + Sync>(
+    rt: &R,
+    alloc: Global,
+    certificate: &[u8],
+    lines: usize,
+) -> Result<(), Fail> {
+    let line = lines + 1;
+    let text = format!(in alloc; "rejected line {line} short\n")?;
+    let row = (
+        TIE,
+        front_of(certificate, lines),
+        CHECK,
+        1,
+        text.as_bytes(),
+    );
+    ends(rt, alloc, &row)
+}
+
 #[test]
 fn cut_certificates(rt: HostRuntime) -> Result<(), Fail> {
     let alloc = rt.alloc();
-    for lines in 1..8 {
-        let line = lines + 1;
-        let text = format!(in alloc; "rejected line {line} short\n")?;
-        ends(
-            &rt,
-            alloc,
-            &(TIE, front_of(TIGHT, lines), CHECK, 1, text.as_bytes()),
-        )?;
+    for lines in 1..9 {
+        is_short(&rt, alloc, TIGHT, lines)?;
+    }
+    for lines in 6..11 {
+        is_short(&rt, alloc, NAMED, lines)?;
     }
     Ok(())
 }

@@ -169,12 +169,16 @@ fn solve_instance<R: Threads + Sync, D: Desk, G: Gate>(
     let Ok(names) = WriteRoom::new(means.alloc, nodes) else {
         return Err(Stop::Memory);
     };
-    begin_certificate(&cert, desk)?;
-    let core = search.run(means, &input.weights);
-    Ok(Solution {
-        input,
-        core,
-        cert,
-        names,
-    })
+    match begin_certificate(&cert, desk) {
+        Ok(()) => {
+            let core = search.run(means, &input.weights);
+            Ok(Solution {
+                input,
+                core,
+                cert,
+                names,
+            })
+        }
+        Err(stop) => Err(stop),
+    }
 }

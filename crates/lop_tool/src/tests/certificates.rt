@@ -118,7 +118,13 @@ pub const NAMED: &[u8] =
 
 /// Leaves that name records.
 const NAMED_RECORDS: &[Row] = &[
-    (TIE, NAMED, CHECK, 0, TIGHT_ROW.4),
+    (
+        TIE,
+        NAMED,
+        CHECK,
+        0,
+        b"accepted\nvalue 4\nbound 4\nstatus optimal\n",
+    ),
     (
         TIE,
         b"lopcert 2\nobjects 3\norder 1 2 3\nvalue 4\nbound 4\ncuts 0\nrecords 1\nrecord 1 0\nsplit 1 2\nsplit 2 3\nleaf 1\nleaf 1\nleaf 1\nend\n",

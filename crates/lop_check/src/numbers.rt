@@ -1,7 +1,8 @@
 // The numbers of an order's line, and what the weights give for them.
-ghost use Rattle.std.specs.Prelude.{◌≡◌, ◌<◌, ◌-◌, ◌^◌, nat_eq, true, length, pos, neg_ℤ, ◌≤ℤ◌, nat_abs, slice_index};
+ghost use Rattle.std.specs.Prelude.{◌≡◌, ◌<◌, ◌-◌, nat_eq, true, length, neg_ℤ, ◌≤ℤ◌, nat_abs, slice_index};
 ghost use Rattle.std.specs.List.{list_any};
 ghost use Rattle.lop_model.specs.Matrix.{weight};
+ghost use Rattle.lop_model.specs.declared.weights.TheConstants.{MAX_ABSOLUTE_SUM};
 ghost use Rattle.lop_cuts.specs.CutTests.{are_different};
 ghost use Rattle.lop_certtext.specs.Answer.{is_order};
 ghost use Rattle.lop_certtext.specs.CutLine.{objects_of};
@@ -58,8 +59,8 @@ fn object_at(numbers: &[i64], place: usize, n: u16) -> u16
 fn sum_in_order(weights: &Weights, numbers: &[i64]) -> i128
     requires { is_order weights.now.size numbers.now ≡ true }
     ensures value { result ≡ weight weights.now (objects_of numbers.now) }
-    ensures low { neg_ℤ (pos (10 ^ 18)) ≤ℤ result }
-    ensures high { result ≤ℤ pos (10 ^ 18) }
+    ensures low { neg_ℤ MAX_ABSOLUTE_SUM ≤ℤ result }
+    ensures high { result ≤ℤ MAX_ABSOLUTE_SUM }
 {
     let n = weights.n();
     let mut sum: i128 = 0;

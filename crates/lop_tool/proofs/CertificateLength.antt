@@ -28,8 +28,15 @@ length-lines c numbers users t is =
     let line = leaf_line Two c.records in
     let last : List CertLine = record { word = End; numbers = [] } ∷ [] in
     let tree : length (tree_lines line c.tree) ≡ node_count t = ap (λ (x : Tree). length (tree_lines line x)) is ∙ length-tree_lines line numbers users t in
-    omega (arith, tree, length-map c.cuts cut_line, length-map c.records record_line, length-append (map cut_line c.cuts) (record_lines Two c.records ++ (tree_lines line c.tree ++ last)),
-    length-append (map record_line c.records) (tree_lines line c.tree ++ last), length-append (tree_lines line c.tree) last)
+    omega (
+      arith,
+      tree,
+      length-map c.cuts cut_line,
+      length-map c.records record_line,
+      length-append (map cut_line c.cuts) (record_lines Two c.records ++ (tree_lines line c.tree ++ last)),
+      length-append (map record_line c.records) (tree_lines line c.tree ++ last),
+      length-append (tree_lines line c.tree) last,
+    )
 
 -- there are at most twice as many nodes as the budget, and one
 few_nodes : (C : Matrix) (budget : ℕ) (x : Found) (core : CoreFields) → IsSearchOf C budget x core → length core.state.nodes ≤ 2 * budget + 1

@@ -27,7 +27,11 @@ use std::alloc::Global;
 #[derive(Clone, Copy)]
 pub enum Outcome {
     /// Both in units of 10^-k.
-    Accepted { value: i64, bound: i64, decimals: u8 },
+    Accepted {
+        value: i64,
+        bound: i64,
+        decimals: u8,
+    },
     Rejected(Rejection),
 }
 
@@ -70,7 +74,13 @@ impl Reply for Outcome {
                 value,
                 bound,
                 decimals,
-            } => print_accepted(i128::from(*value), i128::from(*bound), *decimals, desk, room),
+            } => print_accepted(
+                i128::from(*value),
+                i128::from(*bound),
+                *decimals,
+                desk,
+                room,
+            ),
             Outcome::Rejected(rejection) => rejection.print(desk, room),
         }
     }

@@ -89,13 +89,7 @@ const OWN_RECORDS: &[Row] = &[
         1,
         b"rejected line 8 spelling\n",
     ),
-    (
-        TIE,
-        b"",
-        CHECK,
-        1,
-        b"rejected line 1 short\n",
-    ),
+    (TIE, b"", CHECK, 1, b"rejected line 1 short\n"),
     (
         HALVES,
         b"lopcert 1\nobjects 2\norder 1 2\nvalue 150\nbound 200\ncuts 0\nleaf 1 0\nend\n",

@@ -111,7 +111,7 @@ fn is_short<R: Abort + Threads + Sync>(
     certificate: &[u8],
     lines: usize,
 ) -> Result<(), Fail> {
-    let line = lines + 1;
+    let line = lines.saturating_add(1);
     let text = format!(in alloc; "rejected line {line} short\n")?;
     let row = (TIE, front_of(certificate, lines), CHECK, 1, text.as_bytes());
     ends(rt, alloc, &row)

@@ -6,10 +6,12 @@ use Rattle.lop_ascent.specs.declared.span.Span.{Span}
 use Rattle.lop_ascent.specs.Duals.{AreDuals}
 use Rattle.lop_ascent.specs.Places.{HasCells, IsPlaceIn, IsSpanIn}
 use Rattle.lop_ascent.specs.Rows.{IsRowList}
+use Rattle.lop_model.specs.declared.weights.TheConstants.{MAX_OBJECTS}
+use Rattle.lop_ascent.specs.declared.room.TheConstants.{MAX_ROWS}
 
 -- tables over the pairs of the objects, of which so many are in use, and rows of entries
 pub record IsRoom (size pairs cells reduced ahead : ℕ) (entries : List Place) (spans : List Span) (cuts : List CutKind) (rows : ℕ) (hints : List ℤ) : Type 0 where
-  pub within_limit : size ≤ 512
+  pub within_limit : size ≤ MAX_OBJECTS
   pub enough : HasCells size cells
   pub pairs_fit : pairs ≤ cells
   pub all_reduced : reduced ≡ cells
@@ -20,15 +22,15 @@ pub record IsRoom (size pairs cells reduced ahead : ℕ) (entries : List Place) 
   pub same_spans : length spans ≡ rows
   pub list : IsRowList size cuts
   pub same : rows ≡ length cuts
-  pub all_hints : length hints ≡ 4096
+  pub all_hints : length hints ≡ MAX_ROWS
   pub duals : AreDuals hints
 
 -- the capacities of the lists of cuts, rows, spans and entries, and of the other spans and entries, are enough for the most
 -- rows
 pub record HasRoom (c r s e t p : ℕ) : Type 0 where
-  pub cuts : 4096 ≤ c
-  pub rows : 4096 ≤ r
-  pub spans : 4096 ≤ s
+  pub cuts : MAX_ROWS ≤ c
+  pub rows : MAX_ROWS ≤ r
+  pub spans : MAX_ROWS ≤ s
   pub entries : 262144 ≤ e
-  pub spare_spans : 4096 ≤ t
+  pub spare_spans : MAX_ROWS ≤ t
   pub spare : 262144 ≤ p

@@ -4,6 +4,7 @@ ghost use Rattle.std.specs.Vec.{vec_len, vec_capacity};
 ghost use Rattle.lop_ascent.specs.Duals.{AreDuals};
 ghost use Rattle.lop_ascent.specs.Fewer.{AreFewer};
 ghost use Rattle.lop_ascent.specs.Places.{IsPlaceIn, IsSpanIn};
+ghost use Rattle.lop_ascent.specs.declared.room.TheConstants.{MAX_ROWS};
 
 use crate::objective::{ONE, Variable};
 use crate::place::Place;
@@ -100,7 +101,7 @@ fn hint_of(multiplier: i64, lift: u32) -> i64
 
 /// A hint of 0 for each row.
 pub fn no_hints(alloc: Global) -> Result<Vec<i64>, AllocError>
-    ensures { IfOk result (λ v. (length v.items ≡ 4096) × AreDuals v.items) }
+    ensures { IfOk result (λ v. (length v.items ≡ MAX_ROWS) × AreDuals v.items) }
 {
     let hints = vec![in alloc; 0; MAX_ROWS]?;
     Ok(hints)
@@ -108,11 +109,11 @@ pub fn no_hints(alloc: Global) -> Result<Vec<i64>, AllocError>
 
 /// Writes a row's hint.
 pub fn set_hint(hints: &mut Vec<i64>, at: usize, multiplier: i64, lift: u32)
-    requires at { at < 4096 }
-    requires room { length hints.old.items ≡ 4096 }
+    requires at { at < MAX_ROWS }
+    requires room { length hints.old.items ≡ MAX_ROWS }
     requires lift { lift ≤ 16 }
     requires within { AreDuals hints.old.items }
-    ensures room { length hints.new.items ≡ 4096 }
+    ensures room { length hints.new.items ≡ MAX_ROWS }
     ensures within { AreDuals hints.new.items }
 {
     hints[at] = hint_of(multiplier, lift);
@@ -120,11 +121,11 @@ pub fn set_hint(hints: &mut Vec<i64>, at: usize, multiplier: i64, lift: u32)
 
 /// Writes the kept multipliers as hints. O(rows).
 pub fn write_hints(rows: &[Row], hints: &mut Vec<i64>, lift: u32)
-    requires few { length rows.now ≤ 4096 }
-    requires room { length hints.old.items ≡ 4096 }
+    requires few { length rows.now ≤ MAX_ROWS }
+    requires room { length hints.old.items ≡ MAX_ROWS }
     requires lift { lift ≤ 16 }
     requires within { AreDuals hints.old.items }
-    ensures room { length hints.new.items ≡ 4096 }
+    ensures room { length hints.new.items ≡ MAX_ROWS }
     ensures within { AreDuals hints.new.items }
 {
     for r in 0..rows.len() {
@@ -203,21 +204,21 @@ pub fn remove_idle(
 
 /// Appends a row, for which there is room.
 pub fn push_row(rows: &mut Vec<Row>, row: Row)
-    requires room { vec_len rows.old < 4096 }
-    requires capacity { 4096 ≤ vec_capacity rows.old }
+    requires room { vec_len rows.old < MAX_ROWS }
+    requires capacity { MAX_ROWS ≤ vec_capacity rows.old }
     ensures len { vec_len rows.new ≡ vec_len rows.old + 1 }
-    ensures capacity { 4096 ≤ vec_capacity rows.new }
+    ensures capacity { MAX_ROWS ≤ vec_capacity rows.new }
 {
     rows.push(row).unwrap();
 }
 
 /// Appends a cut, for which there is room.
 pub fn push_cut(cuts: &mut Vec<Cut>, cut: &Cut)
-    requires room { vec_len cuts.old < 4096 }
-    requires capacity { 4096 ≤ vec_capacity cuts.old }
+    requires room { vec_len cuts.old < MAX_ROWS }
+    requires capacity { MAX_ROWS ≤ vec_capacity cuts.old }
     ensures items { cuts.new.items ≡ cuts.old.items ++ cut.now ∷ [] }
     ensures len { vec_len cuts.new ≡ vec_len cuts.old + 1 }
-    ensures capacity { 4096 ≤ vec_capacity cuts.new }
+    ensures capacity { MAX_ROWS ≤ vec_capacity cuts.new }
 {
     cuts.push(cut.copy()).unwrap();
 }

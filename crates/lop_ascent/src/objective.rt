@@ -1,6 +1,7 @@
 // The objective of the pairs, in the unit of the multipliers, and what the weights give beside it.
 ghost use Rattle.std.specs.Prelude.{◌≡◌, ◌<◌, ◌≤◌, length};
 ghost use Rattle.lop_ascent.specs.Places.{HasCells};
+ghost use Rattle.lop_model.specs.declared.weights.TheConstants.{MAX_OBJECTS};
 
 use crate::place::Place;
 use lop_fix::{Decision, Fixings};
@@ -167,7 +168,7 @@ pub fn load_variables(
 ) -> i64
     requires same_n { fixings.now.size ≡ weights.now.size }
     requires within { n ≤ weights.now.size }
-    requires within_limit { n ≤ 512 }
+    requires within_limit { n ≤ MAX_OBJECTS }
     requires cells { HasCells n (length variables.old) }
 {
     let mut sum: u64 = 0;

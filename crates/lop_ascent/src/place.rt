@@ -1,6 +1,7 @@
 ghost use Rattle.std.specs.Prelude.{ℕ, ◌≡◌, ◌+◌, ◌*◌, ◌<◌, ◌≤◌};
 ghost use Rattle.std.specs.Vec.{vec_len, vec_capacity};
 ghost use Rattle.lop_ascent.specs.Places.{HasCells, IsPlaceIn};
+ghost use Rattle.lop_model.specs.declared.weights.TheConstants.{MAX_OBJECTS};
 
 /// The place of a pair of objects i < j in tables over pairs: j(j - 1)/2 + i.
 #[derive(Clone, Copy)]
@@ -16,7 +17,7 @@ impl Place {
     #[inline]
     pub fn of(i: u16, j: u16) -> Self
         requires rising { i < j }
-        requires within_limit { j < 512 }
+        requires within_limit { j < MAX_OBJECTS }
         ensures within { (n cells : ℕ) → j < n → HasCells n cells → IsPlaceIn cells result }
     {
         let second = u32::from(j);

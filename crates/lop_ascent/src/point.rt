@@ -2,6 +2,7 @@
 ghost use Rattle.std.specs.Prelude.{◌≡◌, ◌<◌, ◌≤◌, ◌^◌, length, true};
 ghost use Rattle.lop_model.specs.Fixings.{has_pair};
 ghost use Rattle.lop_ascent.specs.AtFixings.{IsPairAt, IsPairWritten, HasFixings};
+ghost use Rattle.lop_model.specs.declared.weights.TheConstants.{MAX_OBJECTS};
 
 use crate::objective::{ONE, Variable};
 use crate::place::Place;
@@ -29,7 +30,7 @@ fn write_pair(variables: &[Variable], fixings: &Fixings, into: &mut Point, i: u1
     requires same_n { fixings.now.size ≡ into.old.size }
     requires rising { i < j }
     requires below { j < fixings.now.size }
-    requires within_limit { fixings.now.size ≤ 512 }
+    requires within_limit { fixings.now.size ≤ MAX_OBJECTS }
     ensures { IsPairWritten fixings.now.pairs i j into.old into.new }
 {
     let variable = variables.get(Place::of(i, j).index());

@@ -1,5 +1,6 @@
 ghost use Rattle.std.specs.Prelude.{◌≡◌, ◌≢◌, ◌+◌, ◌<◌, ◌≤◌, ◌^◌, [], ◌∷◌, ◌++◌, length, All, pos, ◌≤ℤ◌, IfOk};
 ghost use Rattle.lop_cuts.specs.Kind.{FitsCut};
+ghost use Rattle.lop_model.specs.declared.weights.TheConstants.{MAX_OBJECTS};
 
 use crate::hints::{
     has_cut, least_kept, no_hints, push_cut, push_row, raise_equal, remove_idle, set_hint,
@@ -73,7 +74,7 @@ impl AscentRoom {
 
     /// Takes 22 n² bytes, and leaves 4 MB unwritten until there are rows. It has no row.
     pub fn new(alloc: Global, n: u16) -> Result<Self, AllocError>
-        requires { n ≤ 512 }
+        requires { n ≤ MAX_OBJECTS }
         ensures { IfOk result (λ r. r ≡ no_rows n) }
     {
         let cells = cells_for(n);

@@ -5,6 +5,8 @@ ghost use Rattle.std.specs.Prelude.{ℕ, ◌≡◌, ◌+◌, ◌*◌, ◌<◌, �
 ghost use Rattle.std.specs.Vec.{vec_len, vec_capacity};
 ghost use Rattle.lop_cuts.specs.Kind.{IsArcBelow};
 ghost use Rattle.lop_ascent.specs.Places.{HasCells, IsPlaceIn, IsSpanIn, AreLaidOut};
+ghost use Rattle.lop_model.specs.declared.weights.TheConstants.{MAX_OBJECTS};
+ghost use Rattle.lop_ascent.specs.declared.room.TheConstants.{MAX_ROWS};
 
 use crate::objective::{FRACTION, Variable};
 use crate::place::Place;
@@ -34,7 +36,7 @@ pub struct Row {
 
 /// The place of an arc's pair.
 fn place_of(arc: Pair) -> Place
-    requires { IsArcBelow 512 arc }
+    requires { IsArcBelow MAX_OBJECTS arc }
     ensures { (n cells : ℕ) → IsArcBelow n arc → HasCells n cells → IsPlaceIn cells result }
 {
     if arc.before < arc.after {
@@ -96,7 +98,7 @@ fn push_places(entries: &mut Vec<Place>, count: usize)
 /// others from the end. Answers where the first kind ends. O(arcs).
 fn write_places(entries: &mut [Place], at: usize, arcs: &[Pair], rising: bool) -> usize
     requires room { at + length arcs.now ≤ length entries.old }
-    requires below { All (IsArcBelow 512) arcs.now }
+    requires below { All (IsArcBelow MAX_OBJECTS) arcs.now }
     ensures from { at ≤ result }
     ensures to { result ≤ at + length arcs.now }
     ensures places { (n cells : ℕ) → HasCells n cells → All (IsArcBelow n) arcs.now → All (IsPlaceIn cells) entries.old → All (IsPlaceIn cells) entries.new }
@@ -121,7 +123,7 @@ pub fn push_entries(entries: &mut Vec<Place>, arcs: &[Pair]) -> Span
     requires room { vec_len entries.old + 64 ≤ 262144 }
     requires capacity { 262144 ≤ vec_capacity entries.old }
     requires few { length arcs.now ≤ 64 }
-    requires below { All (IsArcBelow 512) arcs.now }
+    requires below { All (IsArcBelow MAX_OBJECTS) arcs.now }
     ensures few { vec_len entries.new ≤ vec_len entries.old + 64 }
     ensures capacity { 262144 ≤ vec_capacity entries.new }
     ensures more { vec_len entries.old ≤ vec_len entries.new }
@@ -178,12 +180,12 @@ fn copy_entries(from: &[Place], span: Span, to: &mut Vec<Place>) -> Span
 /// Lays the entries of the rows one after another in other lists. O(entries).
 fn lay_out(spans: &[Span], entries: &[Place], to: &mut Vec<Span>, into: &mut Vec<Place>)
     requires spans { All (IsSpanIn (length entries.now)) spans.now }
-    requires few { length spans.now ≤ 4096 }
-    requires to_room { 4096 ≤ vec_capacity to.old }
+    requires few { length spans.now ≤ MAX_ROWS }
+    requires to_room { MAX_ROWS ≤ vec_capacity to.old }
     requires into_room { 262144 ≤ vec_capacity into.old }
     ensures len { vec_len to.new ≡ length spans.now }
     ensures laid_out { AreLaidOut entries.now into.new.items to.new.items }
-    ensures to_room { 4096 ≤ vec_capacity to.new }
+    ensures to_room { MAX_ROWS ≤ vec_capacity to.new }
     ensures into_room { 262144 ≤ vec_capacity into.new }
 {
     to.clear();
@@ -202,16 +204,16 @@ pub fn compact(
     spare: &mut Vec<Place>,
 )
     requires within { All (IsSpanIn (vec_len entries.old)) spans.old.items }
-    requires few { vec_len spans.old ≤ 4096 }
-    requires spans_room { 4096 ≤ vec_capacity spans.old }
+    requires few { vec_len spans.old ≤ MAX_ROWS }
+    requires spans_room { MAX_ROWS ≤ vec_capacity spans.old }
     requires entries_room { 262144 ≤ vec_capacity entries.old }
-    requires spare_spans_room { 4096 ≤ vec_capacity spare_spans.old }
+    requires spare_spans_room { MAX_ROWS ≤ vec_capacity spare_spans.old }
     requires spare_room { 262144 ≤ vec_capacity spare.old }
     ensures len { vec_len spans.new ≡ vec_len spans.old }
     ensures laid_out { AreLaidOut entries.old.items entries.new.items spans.new.items }
-    ensures spans_room { 4096 ≤ vec_capacity spans.new }
+    ensures spans_room { MAX_ROWS ≤ vec_capacity spans.new }
     ensures entries_room { 262144 ≤ vec_capacity entries.new }
-    ensures spare_spans_room { 4096 ≤ vec_capacity spare_spans.new }
+    ensures spare_spans_room { MAX_ROWS ≤ vec_capacity spare_spans.new }
     ensures spare_room { 262144 ≤ vec_capacity spare.new }
 {
     lay_out(spans, entries, spare_spans, spare);

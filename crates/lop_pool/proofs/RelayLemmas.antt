@@ -21,6 +21,7 @@ use Rattle.lop_pool.specs.Holding.{HasNone, Holds, WhateverElse}
 use Rattle.lop_pool.specs.Workers.{WorkerFits, IsPassFor, IsAtWork, HasLeft, IsFirst, IsNumber, IsBack, AllAt}
 use Rattle.lop_pool.proofs.HoldingLemmas.{no_out}
 use Rattle.lop_pool.proofs.RoundLemmas.{known, knows_none, holds_none}
+use Rattle.lop_pool.specs.declared.pool.TheConstants.{MAX_WORKERS}
 
 pub some_and : {X : Type 0} (P Q : X → Type 0) (o : Option X) → ((x : X) → P x → Q x) → IsSomeAnd o P → IsSomeAnd o Q
 some_and P Q None f h = h
@@ -51,7 +52,7 @@ not_split k numbers all has = let n = All-contains (IsNumber k) numbers (k + 1) 
 
 module _ {J : Type 0} (objects : J → ℕ) (judged : Relation) (a : CoreFields) (C : Matrix) (turn : TurnName) where
   -- a worker without a result that gets a pass of its number is ready for the round
-  pub handed : (v : View Event) (number : ℕ) (w : Worker J) → number ≤ 16 → a.problem.weights ≡ C → HasHistory a → out_count a.state.nodes ≡ 0 → IsFirst a v → v.seen ≡ events_of a.journal
+  pub handed : (v : View Event) (number : ℕ) (w : Worker J) → number ≤ MAX_WORKERS → a.problem.weights ≡ C → HasHistory a → out_count a.state.nodes ≡ 0 → IsFirst a v → v.seen ≡ events_of a.journal
       → WorkerFits objects C.size w → w.held ≡ 0 → IsSomeAnd w.pass (λ p. (p.turn ≡ turn) × (p.view ≡ new_view event_worker v number)) → IsAtWork objects judged a.problem C turn number w
   handed v number w small weights h none first seen fits idle pass = record {
     small = small;

@@ -13,6 +13,7 @@ use Rattle.lop_pool.specs.declared.worker.Worker.{Worker}
 use Rattle.lop_pool.specs.Events.{events_of, events_by}
 use Rattle.lop_pool.specs.Judged.{Relation}
 use Rattle.lop_pool.specs.Holding.{Holds, WhateverElse}
+use Rattle.lop_pool.specs.declared.pool.TheConstants.{MAX_WORKERS}
 
 -- its rooms are for n objects
 pub record ParcelFits (n : ℕ) (p : Parcel) : Type 0 where
@@ -43,7 +44,7 @@ pub record IsPassFor (turn : TurnName) (problem : Problem) (number : ℕ) (p : K
 
 -- a worker in a round: it fits, and has the pass of this number, which knows what the worker holds, whatever the others do
 pub record IsAtWork {J : Type 0} (objects : J → ℕ) (judged : Relation) (problem : Problem) (C : Matrix) (turn : TurnName) (number : ℕ) (w : Worker J) : Type 0 where
-  pub small : number ≤ 16
+  pub small : number ≤ MAX_WORKERS
   pub weights_are : problem.weights ≡ C
   pub fits : WorkerFits objects C.size w
   pub has_pass : IsSomeAnd w.pass (λ p. IsPassFor turn problem number p × WhateverElse problem number p.view.mine (Holds judged C number w.parcels.items w.held))

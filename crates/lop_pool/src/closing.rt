@@ -5,6 +5,7 @@ ghost use Rattle.lop_core.specs.Core.{HasHistory};
 ghost use Rattle.lop_pool.specs.Events.{events_by};
 ghost use Rattle.lop_pool.specs.Holding.{HasNone};
 ghost use Rattle.lop_pool.specs.Workers.{WorkerFits, HasLeft, IsFirst, IsNumber, IsBack, AllAt};
+ghost use Rattle.lop_pool.specs.declared.pool.TheConstants.{MAX_WORKERS};
 
 use crate::judged_core::JudgedCore;
 use crate::steps::report_held;
@@ -71,7 +72,7 @@ fn settle<J: Judge>(
 pub fn settle_all<J: Judge>(core: &mut JudgedCore<J>, weights: &Weights, workers: &mut [Worker<J>])
     requires weights { core.old.problem.weights ≡ weights.now }
     requires history { HasHistory core.old }
-    requires at_most { length workers.old ≤ 16 }
+    requires at_most { length workers.old ≤ MAX_WORKERS }
     requires left { AllAt (λ k w. HasLeft J.objects J.judged core.old.problem weights.now (k + 1) (events_by (k + 1) core.old.journal) w) workers.old }
     requires none { (worker : ℕ) → (worker ≡ 0) ⊎ (length workers.old < worker) → HasNone worker core.old.state }
     ensures len { length workers.new ≡ length workers.old }

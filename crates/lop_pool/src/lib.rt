@@ -21,4 +21,4 @@ mod worker;
 
 pub use end::SearchEnd;
 pub use gate::{Gate, OpenGate};
-pub use pool::Pool;
+pub use pool::{MAX_WORKERS, Pool};

@@ -8,6 +8,7 @@ ghost use Rattle.lop_core.specs.Outcome.{IsFinished, IsOutcome};
 ghost use Rattle.lop_pool.specs.declared.end.SearchEnd.TheVariants.{Closed, Spent};
 ghost use Rattle.lop_pool.specs.Judged.{AreJudged};
 ghost use Rattle.lop_pool.specs.Ends.{NoneLive, IsSpent};
+ghost use Rattle.lop_pool.specs.declared.pool.TheConstants.{MAX_WORKERS};
 
 use crate::end::SearchEnd;
 use crate::gate::Gate;
@@ -21,6 +22,9 @@ use std::alloc::{AllocError, Global};
 use std::marker::Model;
 use std::thread::Threads;
 
+/// The most workers of a pool.
+pub const MAX_WORKERS: usize = 16;
+
 /// Workers, each with a judge and rooms of its own. A contract sees the number of objects and the number of workers.
 #[derive(Drop)]
 pub struct Pool<J: Judge> {
@@ -31,13 +35,14 @@ pub struct Pool<J: Judge> {
 impl<J: Judge> Model for Pool<J> {
     ghost use Rattle.std.specs.Prelude.{◌≤◌, vec_len, All};
     ghost use Rattle.lop_pool.specs.Ends.{PoolFields};
+    ghost use Rattle.lop_pool.specs.declared.pool.TheConstants.{MAX_WORKERS};
     ghost use Rattle.lop_pool.specs.Workers.{WorkerFits};
 
     ghost Value = { PoolFields };
 
     ghost view = { λ p. record { size = p.size; workers = vec_len p.workers } };
 
-    ghost invariant = { λ p. All (WorkerFits J.objects p.size) p.workers.items × (1 ≤ vec_len p.workers) × (vec_len p.workers ≤ 16) };
+    ghost invariant = { λ p. All (WorkerFits J.objects p.size) p.workers.items × (1 ≤ vec_len p.workers) × (vec_len p.workers ≤ MAX_WORKERS) };
 }
 
 impl<J: Judge> Pool<J> {
@@ -45,7 +50,7 @@ impl<J: Judge> Pool<J> {
     /// judges.
     pub fn new(alloc: Global, judges: Vec<J>) -> Result<Self, AllocError>
         requires some { 1 ≤ vec_len judges }
-        requires at_most { vec_len judges ≤ 16 }
+        requires at_most { vec_len judges ≤ MAX_WORKERS }
         requires same_n { All (λ j. J.objects j ≡ J.objects (slice_index_or judges.items 0 j)) judges.items }
         ensures workers { IfOk result (λ p. p.workers ≡ vec_len judges) }
         ensures size { IfOk result (λ p. All (λ j. J.objects j ≡ p.size) judges.items) }

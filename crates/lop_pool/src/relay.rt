@@ -7,6 +7,7 @@ ghost use Rattle.lop_pool.specs.declared.event.Event.{Event};
 ghost use Rattle.lop_pool.specs.Events.{events_of, events_by, event_worker};
 ghost use Rattle.lop_pool.specs.Holding.{Holds, HasNone};
 ghost use Rattle.lop_pool.specs.Workers.{WorkerFits, IsAtWork, HasLeft, IsFirst, IsNumber, IsBack, AllAt};
+ghost use Rattle.lop_pool.specs.declared.pool.TheConstants.{MAX_WORKERS};
 
 use crate::judged_core::JudgedCore;
 use crate::steps::report_held;
@@ -51,7 +52,7 @@ pub fn hand_passes<J: Judge>(
     requires history { HasHistory about.now.value }
     requires weights { about.now.value.problem.weights ≡ weights.now }
     requires none_out { out_count about.now.value.state.nodes ≡ 0 }
-    requires at_most { length workers.old ≤ 16 }
+    requires at_most { length workers.old ≤ MAX_WORKERS }
     requires fits { All (WorkerFits J.objects weights.now.size) workers.old }
     requires idle { All (λ w. w.held ≡ 0) workers.old }
     ensures len { length workers.new ≡ length workers.old }
@@ -99,7 +100,7 @@ pub fn take_passes<J: Judge>(
     requires turn { first.old.turn ≡ turn.now }
     requires first { IsFirst about.now.value first.old.view }
     requires left { AllAt (λ k w. IsAtWork J.objects J.judged about.now.value.problem weights.now turn.now (k + 1) w) workers.old }
-    requires at_most { length workers.old ≤ 16 }
+    requires at_most { length workers.old ≤ MAX_WORKERS }
     ensures len { length workers.new ≡ length workers.old }
     ensures turn { first.new.turn ≡ first.old.turn }
     ensures first { IsFirst about.now.value first.new.view }

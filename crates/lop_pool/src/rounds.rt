@@ -5,6 +5,7 @@ ghost use Rattle.lop_core.specs.Core.{HasHistory};
 ghost use Rattle.lop_pool.specs.Events.{events_of, events_by};
 ghost use Rattle.lop_pool.specs.Holding.{HasNone};
 ghost use Rattle.lop_pool.specs.Workers.{WorkerFits, HasLeft, IsFirst, AllAt};
+ghost use Rattle.lop_pool.specs.declared.pool.TheConstants.{MAX_WORKERS};
 
 use crate::closing::{close_round, settle_all};
 use crate::gate::Gate;
@@ -39,7 +40,7 @@ fn share<R: Threads + Sync, J: Judge, G: Gate>(
     requires weights { about.now.value.problem.weights ≡ weights.now }
     requires none_out { out_count about.now.value.state.nodes ≡ 0 }
     requires some { 1 ≤ length workers.old }
-    requires at_most { length workers.old ≤ 16 }
+    requires at_most { length workers.old ≤ MAX_WORKERS }
     requires fits { All (WorkerFits J.objects weights.now.size) workers.old }
     requires idle { All (λ w. w.held ≡ 0) workers.old }
     ensures len { length workers.new ≡ length workers.old }
@@ -66,7 +67,7 @@ fn round<R: Threads + Sync, J: Judge, G: Gate>(
     gate: &G,
 ) -> JudgedCore<J>
     requires some { 1 ≤ length workers.old }
-    requires at_most { length workers.old ≤ 16 }
+    requires at_most { length workers.old ≤ MAX_WORKERS }
     requires fits { All (WorkerFits J.objects weights.now.size) workers.old }
     requires idle { All (λ w. w.held ≡ 0) workers.old }
     requires weights { core.problem.weights ≡ weights.now }
@@ -100,7 +101,7 @@ pub fn try_round<R: Threads + Sync, J: Judge, G: Gate>(
     gate: &G,
 ) -> (JudgedCore<J>, bool)
     requires some { 1 ≤ length workers.old }
-    requires at_most { length workers.old ≤ 16 }
+    requires at_most { length workers.old ≤ MAX_WORKERS }
     requires fits { All (WorkerFits J.objects weights.now.size) workers.old }
     requires idle { All (λ w. w.held ≡ 0) workers.old }
     requires weights { core.problem.weights ≡ weights.now }

@@ -3,6 +3,7 @@ ghost use Rattle.std.specs.Prelude.{◌≡◌, ℕ, false, ◌<◌, ◌≤◌, l
 ghost use Rattle.lop_core.specs.Tree.{out_count};
 ghost use Rattle.lop_pool.specs.Workers.{WorkerFits};
 ghost use Rattle.lop_pool.specs.Ends.{IsEnd};
+ghost use Rattle.lop_pool.specs.declared.pool.TheConstants.{MAX_WORKERS};
 
 use crate::caller::evaluate;
 use crate::end::SearchEnd;
@@ -46,7 +47,7 @@ fn step<R: Threads + Sync, J: Judge, G: Gate>(
     gate: &G,
 ) -> (JudgedCore<J>, Option<SearchEnd>)
     requires some { 1 ≤ length workers.old }
-    requires at_most { length workers.old ≤ 16 }
+    requires at_most { length workers.old ≤ MAX_WORKERS }
     requires fits { All (WorkerFits J.objects weights.now.size) workers.old }
     requires idle { All (λ w. w.held ≡ 0) workers.old }
     requires weights { core.problem.weights ≡ weights.now }
@@ -80,7 +81,7 @@ fn run<R: Threads + Sync, J: Judge, G: Gate>(
     gate: &G,
 ) -> (JudgedCore<J>, SearchEnd)
     requires some { 1 ≤ length workers.old }
-    requires at_most { length workers.old ≤ 16 }
+    requires at_most { length workers.old ≤ MAX_WORKERS }
     requires fits { All (WorkerFits J.objects weights.now.size) workers.old }
     requires idle { All (λ w. w.held ≡ 0) workers.old }
     requires weights { core.problem.weights ≡ weights.now }
@@ -111,7 +112,7 @@ pub fn search_with<R: Threads + Sync, J: Judge, G: Gate>(
     gate: &G,
 ) -> (JudgedCore<J>, SearchEnd)
     requires some { 1 ≤ length workers.old }
-    requires at_most { length workers.old ≤ 16 }
+    requires at_most { length workers.old ≤ MAX_WORKERS }
     requires fits { All (WorkerFits J.objects weights.now.size) workers.old }
     requires weights { core.problem.weights ≡ weights.now }
     requires none_out { out_count core.state.nodes ≡ 0 }

@@ -5,6 +5,7 @@ ghost use Rattle.lop_model.specs.Matrix.{weight};
 ghost use Rattle.lop_climb.specs.StartOrder.{IsBeckerOrder};
 ghost use Rattle.lop_model.specs.declared.weights.TheConstants.{MAX_OBJECTS};
 ghost use Rattle.lop_tool.specs.Search.{found_of, IsClimbed, IsSearchOf};
+ghost use Rattle.lop_pool.specs.declared.pool.TheConstants.{MAX_WORKERS};
 
 use lop_climb::{ClimbRoom, climb, start_order};
 use lop_core::Core;
@@ -53,7 +54,7 @@ impl Search {
         nodes: u32,
     ) -> Result<Self, AllocError>
         requires some { 1 ≤ workers }
-        requires at_most { workers ≤ 16 }
+        requires at_most { workers ≤ MAX_WORKERS }
         requires positive { 1 ≤ nodes }
         requires within_limit { nodes ≤ 1000000 }
         ensures weights { IfOk result (λ core. core.problem.weights ≡ weights.now) }
@@ -82,7 +83,7 @@ impl Search {
 // So many workers, each with a judge for n objects.
 fn pool_of(alloc: Global, n: u16, workers: u32) -> Result<Pool<CutJudge>, AllocError>
     requires some { 1 ≤ workers }
-    requires at_most { workers ≤ 16 }
+    requires at_most { workers ≤ MAX_WORKERS }
     requires positive { 1 ≤ n }
     requires within_limit { n ≤ MAX_OBJECTS }
     ensures { IfOk result (λ pool. pool.size ≡ n) }

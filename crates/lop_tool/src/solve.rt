@@ -12,6 +12,7 @@ ghost use Rattle.lop_tool.specs.Solve.{CanLeave, SolvesInstance, IsPrintable, so
 ghost use Rattle.lop_tool.specs.Reply.{IsRight};
 ghost use Rattle.lop_tool.specs.Steps.{BeginCause};
 ghost use Rattle.lop_tool.specs.Ended.{Ended, StopCause};
+ghost use Rattle.lop_pool.specs.declared.pool.TheConstants.{MAX_WORKERS};
 
 use crate::certificate::{begin_certificate, leave_certificate};
 use crate::input::{Instance, read_input};
@@ -103,7 +104,7 @@ pub fn solve<R: Threads + Sync, D: Desk, G: Gate>(
     room: &mut TextRoom,
 ) -> Status
     requires some { 1 ≤ workers }
-    requires at_most { workers ≤ 16 }
+    requires at_most { workers ≤ MAX_WORKERS }
     requires positive { 1 ≤ nodes }
     requires within_limit { nodes ≤ 1000000 }
     ensures later { D.faults desk.old ≤ D.faults desk.new }
@@ -125,7 +126,7 @@ fn solve_file<R: Threads + Sync, D: Desk, G: Gate>(
     desk: &mut D,
 ) -> Result<Solution, Stop>
     requires some { 1 ≤ workers }
-    requires at_most { workers ≤ 16 }
+    requires at_most { workers ≤ MAX_WORKERS }
     requires positive { 1 ≤ nodes }
     requires within_limit { nodes ≤ 1000000 }
     ensures world { LeavesAll (D.told desk.old) (D.told desk.new) }
@@ -151,7 +152,7 @@ fn solve_instance<R: Threads + Sync, D: Desk, G: Gate>(
     desk: &mut D,
 ) -> Result<Solution, Stop>
     requires some { 1 ≤ workers }
-    requires at_most { workers ≤ 16 }
+    requires at_most { workers ≤ MAX_WORKERS }
     requires positive { 1 ≤ nodes }
     requires within_limit { nodes ≤ 1000000 }
     requires of_size { IsOfSize input.weights.size input.profile }

@@ -6,13 +6,14 @@ use Rattle.lop_pool.specs.Workers.{WorkerFits, IsAtWork}
 use Rattle.lop_pool.proofs.PlaceLemmas.{below_set}
 use Rattle.lop_pool.proofs.RelayLemmas.{first_split, split_more, handed}
 use Rattle.lop_pool.proofs.relay.hand_passes.Goals as goal
+use Rattle.lop_pool.specs.declared.pool.TheConstants.{MAX_WORKERS}
 
 pub loop-k-preserved : goal.loop-k-preserved
 loop-k-preserved g c =
     let lt : c.loop-k.k < length c.loop-k.workers = omega (arith, c.loop-k-test.true, c.loop-k.invariant.len, c.loop-k.auto.workers) in
     let fits = c.hand_pass.ensures.fits c.args.weights.now.size (c.loop-k.invariant.fits c.loop-k.k c.index-workers-k.result lt) in
     let idle : c.hand_pass.new.worker.held ≡ 0 = c.hand_pass.ensures.held ∙ c.loop-k.invariant.idle c.loop-k.k c.index-workers-k.result lt in
-    let small : c.loop-k.k + 1 ≤ 16 = omega (arith, lt, c.loop-k.invariant.len, c.requires.at_most) in
+    let small : c.loop-k.k + 1 ≤ MAX_WORKERS = omega (arith, lt, c.loop-k.invariant.len, c.requires.at_most) in
     record {
       len = length-set c.loop-k.workers c.loop-k.k c.hand_pass.new.worker ∙ c.loop-k.invariant.len;
       turn = c.hand_pass.ensures.turn ∙ c.loop-k.invariant.turn;

@@ -5,11 +5,12 @@ use Rattle.lop_cuts.specs.Kind.{IsArcBelow}
 use Rattle.lop_ascent.proofs.ListLemmas.{fits_more, row_added}
 use Rattle.lop_ascent.proofs.PlaceLemmas.{spans_push, spans_more}
 use Rattle.lop_ascent.proofs.room.AscentRoom.add_row.Goals as goal
+use Rattle.lop_model.specs.declared.weights.TheConstants.{MAX_OBJECTS}
 
 pub push_entries-span-requires-clause-below : goal.push_entries-span-requires-clause-below
 push_entries-span-requires-clause-below c =
-    let P = λ (xs : List Pair). All (IsArcBelow 512) xs in
-    subst P (sym c.as_slice.ensures.value) (c.arcs-arcs.ensures.below 512 (fits_more c.self.inside.size c.args.cut.now c.self.invariant.0.within_limit (search rules)))
+    let P = λ (xs : List Pair). All (IsArcBelow MAX_OBJECTS) xs in
+    subst P (sym c.as_slice.ensures.value) (c.arcs-arcs.ensures.below MAX_OBJECTS (fits_more c.self.inside.size c.args.cut.now c.self.invariant.0.within_limit (search rules)))
 
 pub invariant_of-self : goal.invariant_of-self
 invariant_of-self c = (

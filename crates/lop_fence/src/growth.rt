@@ -1,7 +1,12 @@
 ghost use Rattle.std.specs.Prelude.{◌≡◌, ◌+◌, ◌<◌, ◌≤◌, IfSome};
 ghost use Rattle.lop_cuts.specs.Kind.{FitsCut};
+ghost use Rattle.lop_model.specs.declared.weights.TheConstants.{MAX_OBJECTS};
 
 use lop_cuts::{Cut, Point};
+use lop_model::MAX_OBJECTS;
+
+/// For so many objects there is room.
+const OBJECTS: usize = MAX_OBJECTS as usize;
 
 /// A post of a fence, and what its arcs add to the values of the fence's arcs.
 #[derive(Clone, Copy)]
@@ -18,11 +23,11 @@ pub(crate) struct Growth {
     posts: usize,
     u: [u16; 8],
     w: [u16; 8],
-    used: [bool; 512],
+    used: [bool; OBJECTS],
     /// For each object the values of the arcs to it from each post's `w`, added up.
-    reached: [u64; 512],
+    reached: [u64; OBJECTS],
     /// For each object the values of the arcs from it to each post's `u`, added up.
-    leaving: [u64; 512],
+    leaving: [u64; OBJECTS],
     ghost few: { posts ≤ 8 },
 }
 
@@ -35,9 +40,9 @@ impl Growth {
             posts: 0,
             u: [0; 8],
             w: [0; 8],
-            used: [false; 512],
-            reached: [0; 512],
-            leaving: [0; 512],
+            used: [false; OBJECTS],
+            reached: [0; OBJECTS],
+            leaving: [0; OBJECTS],
         }
     }
 
@@ -49,7 +54,7 @@ impl Growth {
 
     /// Whether a post with this `u` could gain more.
     pub(crate) fn may_gain(&self, u: u16, gain: u64) -> bool
-        requires { u < 512 }
+        requires { u < MAX_OBJECTS }
     {
         let rest = (self.posts as u64 + 1) * Point::ONE;
         !self.used[u as usize] && self.reached[u as usize].saturating_add(rest) > gain
@@ -57,8 +62,8 @@ impl Growth {
 
     /// What the arcs of a post of these objects would add.
     fn gain(&self, u: u16, w: u16, value: u64) -> u64
-        requires first { u < 512 }
-        requires second { w < 512 }
+        requires first { u < MAX_OBJECTS }
+        requires second { w < MAX_OBJECTS }
     {
         let across = self.reached[u as usize].saturating_add(self.leaving[w as usize]);
         value.saturating_add(across)

@@ -17,6 +17,7 @@ use Rattle.lop_certwrite.proofs.LeafLemmas.{numbered}
 use Rattle.lop_certwrite.proofs.Pieces.{records_of}
 use Rattle.lop_certwrite.proofs.Users.{few_below, users_apart}
 use Rattle.lop_certwrite.proofs.TreeHolds.{users_inside}
+use Rattle.lop_core.specs.declared.search.TheConstants.{MAX_BUDGET}
 
 -- records have as many terms as those of their nodes
 term_count-records_of : (core : CoreFields) (users : List ℕ) → term_count (records_of core users) ≡ sum (map (λ i. length (record_at core.book.records i).terms) users)
@@ -30,7 +31,7 @@ term_count-records_of core (u ∷ us) =
     sum_by-cons (λ x. x) (length (record_at core.book.records u).terms) (map (λ i. length (record_at core.book.records i).terms) us) in
     omega (arith, size, both, step, term_count-records_of core us)
 
-pub has_text : (core : CoreFields) → HasHistory core → AreRecorded core → IsRecordBook core.book → HaveTermsWithin core.book (term_room core.problem.budget) → core.state.evaluated ≤ 1000000
+pub has_text : (core : CoreFields) → HasHistory core → AreRecorded core → IsRecordBook core.book → HaveTermsWithin core.book (term_room core.problem.budget) → core.state.evaluated ≤ MAX_BUDGET
     → (c : Certificate) → IsCertificateOf core c → HasText Two c
 has_text core history recorded book within few c is =
     let users : List ℕ = users_in core.book.numbers is.whole.tree in

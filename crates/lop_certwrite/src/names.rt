@@ -6,12 +6,9 @@ ghost use Rattle.lop_certwrite.specs.Names.{ArePlaces, IsNaming};
 ghost use Rattle.lop_certwrite.specs.Walk.{open_in, visit_at};
 
 use crate::walk::next_node;
-use lop_core::{Core, Standing};
+use lop_core::{Core, MAX_BUDGET, Standing};
 use std::alloc::{AllocError, Global};
 use std::marker::Model;
-
-/// The most nodes that a core evaluates.
-const MOST_NODES: u32 = 1_000_000;
 
 /// The records that leaves use.
 #[derive(Drop)]
@@ -30,13 +27,14 @@ pub struct WriteRoom {
 }
 
 impl Model for WriteRoom {
+    ghost use Rattle.lop_core.specs.declared.search.TheConstants.{MAX_BUDGET};
     ghost use Rattle.std.specs.Prelude.{◌≤◌, ◌+◌, ℕ, length, vec_capacity, min};
 
     ghost Value = { ℕ };
 
     ghost view = { λ room. room.budget };
 
-    ghost invariant = { λ room. (min room.budget 1000000 + 1 ≤ length room.names.places.items) × (length room.names.places.items ≤ 1000001) × (length room.names.places.items ≤ vec_capacity room.names.users) };
+    ghost invariant = { λ room. (min room.budget MAX_BUDGET + 1 ≤ length room.names.places.items) × (length room.names.places.items ≤ MAX_BUDGET + 1) × (length room.names.places.items ≤ vec_capacity room.names.users) };
 }
 
 impl WriteRoom {
@@ -45,7 +43,7 @@ impl WriteRoom {
     pub fn new(alloc: Global, budget: u32) -> Result<WriteRoom, AllocError>
         ensures { IfOk result (λ room. room ≡ budget) }
     {
-        let count = budget.min(MOST_NODES) as usize + 1;
+        let count = budget.min(MAX_BUDGET) as usize + 1;
         let places = vec![in alloc; 0; count]?;
         let users = Vec::with_capacity(alloc, count)?;
         Ok(WriteRoom {

@@ -20,6 +20,7 @@ use Rattle.lop_core.specs.Tree.{node_at, path_of, out_count}
 use Rattle.lop_core.specs.Records.{NodeRecord, RecordBook, empty_record, record_at, scaled_of, term_room, finds_room, is_own, IsTakenOrKept, with_children}
 use Rattle.lop_core.specs.Machine.{Problem, SearchState, root_state, after, IsOutTo, IsLive, IsReady, IsFirstReady}
 use Rattle.lop_core.specs.Journal.{replay, room_count, MayTake, IsLawfulJournal}
+use Rattle.lop_core.specs.declared.search.TheConstants.{MAX_BUDGET}
 
 -- a core as contracts see it: its problem and state, the journal of how it came about, the order that weighs as much as best, and the records of the nodes
 pub record CoreFields : Type 0 where
@@ -150,7 +151,7 @@ view_of node r = record { parent = node.parent; pair = node.pair; bound = node.b
 -- the rooms hold all nodes, the numbers of their records, the records and the entries that a budget allows
 pub record HasRoom (budget node_room journal_room number_room record_room : ℕ) : Type 0 where
   pub positive : 1 ≤ budget
-  pub within_limit : budget ≤ 1000000
+  pub within_limit : budget ≤ MAX_BUDGET
   pub for_nodes : 2 * budget + 1 ≤ node_room
   pub for_entries : 2 * budget ≤ journal_room
   pub for_numbers : 2 * budget + 1 ≤ number_room

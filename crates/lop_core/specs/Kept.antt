@@ -6,6 +6,7 @@ use Rattle.lop_core.specs.declared.records.NumberedTerm.{NumberedTerm}
 use Rattle.lop_core.specs.declared.records.Span.{Span}
 use Rattle.lop_core.specs.declared.records.Records.{Records}
 use Rattle.lop_core.specs.Records.{NodeRecord, RecordBook, IsRecordBook, record_at, cut_room, term_room}
+use Rattle.lop_core.specs.declared.search.TheConstants.{MAX_BUDGET}
 
 -- the record of a span of the room
 abbrev pub record_of : List NumberedTerm → Span → NodeRecord
@@ -24,7 +25,7 @@ pub record AreKept (r : Records) : Type 0 where
   pub book : IsRecordBook (book_of r)
   pub inside : All (λ s. s.first + s.count ≤ length r.terms.items) r.spans.items
   pub few_cuts : length r.cuts ≤ cut_room
-  pub few_terms : r.term_room ≤ term_room 1000000
+  pub few_terms : r.term_room ≤ term_room MAX_BUDGET
   pub for_terms : r.term_room ≤ vec_capacity r.terms
   pub within : length r.terms.items ≤ r.term_room
   pub for_fresh : MAX_TERMS ≤ vec_capacity r.fresh

@@ -21,4 +21,4 @@ pub use journal::Entry;
 pub use node::{NodeView, SearchNode, Standing};
 pub use records::NumberedTerm;
 pub use reply::{ReportReply, TakeReply};
-pub use search::Core;
+pub use search::{Core, MAX_BUDGET};

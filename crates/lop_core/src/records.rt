@@ -7,6 +7,7 @@ ghost use Rattle.lop_leaf.specs.declared.leaf_record.TheConstants.{MAX_TERMS};
 ghost use Rattle.lop_leaf.specs.Record.{IsMultiplier, IsScaledTerms};
 ghost use Rattle.lop_core.specs.CutIndex.{IsNumberOf};
 ghost use Rattle.lop_core.specs.Kept.{AreKept, book_of, record_of};
+ghost use Rattle.lop_core.specs.declared.search.TheConstants.{MAX_BUDGET};
 
 use crate::cut_index::{CUT_ROOM, CutIndex};
 use crate::room::put_last;
@@ -47,7 +48,7 @@ pub struct Records {
 
 /// How many terms there is room for.
 fn term_room(budget: u32) -> usize
-    requires { budget ≤ 1000000 }
+    requires { budget ≤ MAX_BUDGET }
     ensures { result ≡ term_room_of budget }
 {
     MAX_TERMS + (1024 * budget as usize).min(67_108_864)
@@ -231,7 +232,7 @@ impl Records {
     /// Takes all the memory that the records of a search with this budget need. There is the record of the root,
     /// without terms.
     pub fn prepare(alloc: Global, budget: u32) -> Result<Self, AllocError>
-        requires { budget ≤ 1000000 }
+        requires { budget ≤ MAX_BUDGET }
         ensures book { IfOk result (λ r. book_of r ≡ root_book) }
         ensures kept { IfOk result AreKept }
         ensures term_room { IfOk result (λ r. r.term_room ≡ term_room_of budget) }

@@ -15,6 +15,7 @@ ghost use Rattle.lop_core.specs.AllOrders.{factorial};
 ghost use Rattle.lop_core.specs.Workers.{IsInRange};
 ghost use Rattle.lop_core.specs.Core.{CoreFields, HasHistory, IsTake, OnNode, IsReport, IsSoundReport, AreRecorded, prepared, view_of};
 ghost use Rattle.lop_core.specs.Records.{HaveTermsWithin, IsNodeRecord, IsRecordBook, cut_at, number_at, record_at, scaled_of, term_room};
+ghost use Rattle.lop_core.specs.declared.search.TheConstants.{MAX_BUDGET};
 
 use crate::candidates::Candidates;
 use crate::journal::Entry;
@@ -32,6 +33,9 @@ use lop_model::{Order, Pair, Weights};
 use lop_value::value;
 use std::alloc::{AllocError, Global};
 use std::marker::Model;
+
+/// The most nodes that a search evaluates.
+pub const MAX_BUDGET: u32 = 1_000_000;
 
 /// A search: its state, and the journal of how it came about. A contract sees the problem, the state, the journal
 /// and the kept order.
@@ -95,7 +99,7 @@ impl Core {
     ) -> Result<Self, AllocError>
         requires same_n { length order.now ≡ weights.now.size }
         requires positive { 1 ≤ budget }
-        requires within_limit { budget ≤ 1000000 }
+        requires within_limit { budget ≤ MAX_BUDGET }
         ensures { IfOk result (λ core. core ≡ prepared (record { weights = weights.now; start = weight weights.now order.now; budget = budget }) order.now) }
     {
         let n = order.n();
@@ -263,7 +267,7 @@ impl Core {
     pub fn budget(&self) -> u32
         ensures value { result ≡ self.now.problem.budget }
         ensures positive { 1 ≤ result }
-        ensures within_limit { result ≤ 1000000 }
+        ensures within_limit { result ≤ MAX_BUDGET }
     {
         self.budget
     }

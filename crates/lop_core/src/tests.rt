@@ -2,7 +2,7 @@ ghost use Rattle.std.specs.Prelude.{◌≡◌, ◌<◌, IsTrue, IfOk, length};
 ghost use Rattle.lop_model.specs.Order.{IsOrder};
 ghost use Rattle.lop_leaf.specs.Sound.{IsSoundTicket, IsSoundResult};
 
-use crate::{Core, Entry, NodeView, ReportReply, Standing, TakeReply};
+use crate::{Core, Entry, MAX_BUDGET, NodeView, ReportReply, Standing, TakeReply};
 use lop_cuts::CutKind;
 use lop_fix::Fixings;
 use lop_leaf::{Evaluated, LeafRecord, PairRoom, Ticket, packing};
@@ -127,7 +127,7 @@ fn three_sectors(alloc: Global, budget: u32) -> Result<Option<Core>, Fail> {
     let entries: [i64; 9] = [0, 5, 1, 2, 0, 4, 3, 1, 0];
     let order = Order::first(alloc, 3)?;
     match Weights::new(3, entries.to_vec(alloc)?) {
-        Ok(weights) if order.n() == weights.n() && budget >= 1 && budget <= 1_000_000 => {
+        Ok(weights) if order.n() == weights.n() && budget >= 1 && budget <= MAX_BUDGET => {
             Ok(Some(Core::prepare(alloc, &weights, &order, budget)?))
         }
         _ => Ok(None),
@@ -149,7 +149,7 @@ fn three_fence(alloc: Global, budget: u32) -> Result<Option<(Core, Order)>, Fail
         return Ok(None);
     };
     match Weights::new(6, entries.to_vec(alloc)?) {
-        Ok(weights) if order.n() == weights.n() && budget >= 1 && budget <= 1_000_000 => {
+        Ok(weights) if order.n() == weights.n() && budget >= 1 && budget <= MAX_BUDGET => {
             Ok(Some((Core::prepare(alloc, &weights, &order, budget)?, order)))
         }
         _ => Ok(None),

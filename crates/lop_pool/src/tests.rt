@@ -2,6 +2,7 @@
 mod worst;
 
 ghost use Rattle.std.specs.Prelude.{◌≡◌, ◌≤◌, vec_len, All, IfOk};
+ghost use Rattle.lop_core.specs.declared.search.TheConstants.{MAX_BUDGET};
 
 use crate::{Gate, OpenGate, Pool, SearchEnd};
 use lop_core::Core;
@@ -64,7 +65,7 @@ fn searched<R: Threads + Sync, J: Judge, G: Gate>(
     requires at_most { vec_len judges ≤ 16 }
     requires same_n { All (λ j. J.objects j ≡ 6) judges.items }
     requires positive { 1 ≤ budget }
-    requires within_limit { budget ≤ 1000000 }
+    requires within_limit { budget ≤ MAX_BUDGET }
 {
     let entries: [i64; 36] = [
         0, 0, 0, 2, 0, 0, //

@@ -21,6 +21,7 @@ use Rattle.lop_tool.proofs.CertificateLength.{length-certificate_of}
 use Rattle.lop_tool.proofs.CheckLemmas.{checked_once, accepted_at}
 use Rattle.lop_tool.proofs.Stops.{files-at_rest, not_any}
 use Rattle.lop_tool.proofs.Promises.{solves, checks, ends_well}
+use Rattle.lop_core.specs.declared.search.TheConstants.{MAX_BUDGET}
 
 -- ---- a check of an accepted certificate
 
@@ -47,7 +48,7 @@ accepted_ends format file name v new before now n input value bound ended checke
 -- ---- the certificate of a search
 
 -- what stands under the name is accepted with the numbers that were found
-left_accepted : (format : Format) (file name : List ℕ) (nodes : ℕ) (w v : World) (optimal : Bool) (text : List ℕ) (left : Option NamedFile) → name ≢ file → nodes ≤ 1000000 → (s : Solves format file nodes (Some name) (Some w.files) optimal text left) → v.files ≡ put_file (record { name = name; bytes = certificate_text Two s.left_is.certificate }) w.files
+left_accepted : (format : Format) (file name : List ℕ) (nodes : ℕ) (w v : World) (optimal : Bool) (text : List ℕ) (left : Option NamedFile) → name ≢ file → nodes ≤ MAX_BUDGET → (s : Solves format file nodes (Some name) (Some w.files) optimal text left) → v.files ≡ put_file (record { name = name; bytes = certificate_text Two s.left_is.certificate }) w.files
     → IsChecked format file name v.files s.input (accepted s.found.value s.found.bound)
 left_accepted format file name nodes w v optimal text left apart few s files =
     let c = s.left_is.certificate in
@@ -69,7 +70,7 @@ files_left w mid text left made is leaves =
     sym (files-at_rest mid) ∙ ap files_of named
 
 -- the two runs of a round trip
-trip : (format : Format) (file name : List ℕ) (nodes : ℕ) (w : World) (mid new : Option World) (before between now solved checked : ℕ) → name ≢ file → nodes ≤ 1000000 → DoneBy (Solves format file nodes (Some name) (Some w.files)) (Some w) mid solved → Ended (Some (Check format file name)) mid new between now checked
+trip : (format : Format) (file name : List ℕ) (nodes : ℕ) (w : World) (mid new : Option World) (before between now solved checked : ℕ) → name ≢ file → nodes ≤ MAX_BUDGET → DoneBy (Solves format file nodes (Some name) (Some w.files)) (Some w) mid solved → Ended (Some (Check format file name)) mid new between now checked
     → before ≤ between → ¬ (Rose before now) → (checked ≡ solved) ⊎ (checked ≡ number status.Memory)
 trip format file name nodes w None new before between now solved checked apart few d second later calm =
     let files = files_left w None d.text d.left _ d.kept.left_is.file_is d.leaves in absurd cc

@@ -13,6 +13,7 @@ use Rattle.lop_tool.specs.Names.{CoreFields, SearchState, Tree, tree_lines, Cert
 use Rattle.lop_tool.specs.Names.{certificate_text, HasText, Two, IsTreeCertificate, NodeTree, one_node, two_below, node_count}
 use Rattle.lop_tool.specs.Names.{certificate_tree, IsCertificateOf, Matrix, IsWeights}
 use Rattle.lop_tool.specs.Search.{Found, IsSearchOf}
+use Rattle.lop_core.specs.declared.search.TheConstants.{MAX_BUDGET}
 
 -- a tree has a line for each node
 length-tree_lines : (line : ℕ → CertLine) (numbers users : List ℕ) (t : NodeTree) → length (tree_lines line (certificate_tree numbers users t)) ≡ node_count t
@@ -46,7 +47,7 @@ few_nodes C budget x core solved =
     omega (arith, c.size, c.splits, c.within, same, solved.budget_is)
 
 -- a checker reads it to its end
-pub length-certificate_of : (C : Matrix) (budget : ℕ) (x : Found) (core : CoreFields) (c : Certificate) → budget ≤ 1000000 → IsSearchOf C budget x core → IsCertificateOf core c → IsTreeCertificate core.problem.weights c → HasText Two c → length (certificate_text Two c) ≤ 2 ^ 40
+pub length-certificate_of : (C : Matrix) (budget : ℕ) (x : Found) (core : CoreFields) (c : Certificate) → budget ≤ MAX_BUDGET → IsSearchOf C budget x core → IsCertificateOf core c → IsTreeCertificate core.problem.weights c → HasText Two c → length (certificate_text Two c) ≤ 2 ^ 40
 length-certificate_of C budget x core c few solved of holds has_text =
     let weights = subst (λ (D : Matrix). IsWeights D) (sym solved.weights_are) solved.searched.weights in
     omega (arith, short_text (certificate_lines Two c) (lines_written core.problem.weights weights c holds Two has_text), length-lines c core.book.numbers _ of.whole.tree of.tree_is, of.whole.complete, few_nodes C budget x core solved, holds.few_cuts, has_text.0, few)

@@ -6,6 +6,7 @@ ghost use Rattle.lop_climb.specs.StartOrder.{IsBeckerOrder};
 ghost use Rattle.lop_model.specs.declared.weights.TheConstants.{MAX_OBJECTS};
 ghost use Rattle.lop_tool.specs.Search.{found_of, IsClimbed, IsSearchOf};
 ghost use Rattle.lop_pool.specs.declared.pool.TheConstants.{MAX_WORKERS};
+ghost use Rattle.lop_core.specs.declared.search.TheConstants.{MAX_BUDGET};
 
 use lop_climb::{ClimbRoom, climb, start_order};
 use lop_core::Core;
@@ -56,7 +57,7 @@ impl Search {
         requires some { 1 ≤ workers }
         requires at_most { workers ≤ MAX_WORKERS }
         requires positive { 1 ≤ nodes }
-        requires within_limit { nodes ≤ 1000000 }
+        requires within_limit { nodes ≤ MAX_BUDGET }
         ensures weights { IfOk result (λ core. core.problem.weights ≡ weights.now) }
         ensures budget { IfOk result (λ core. core.problem.budget ≡ nodes) }
     {

@@ -13,6 +13,7 @@ ghost use Rattle.lop_tool.specs.Reply.{IsRight};
 ghost use Rattle.lop_tool.specs.Steps.{BeginCause};
 ghost use Rattle.lop_tool.specs.Ended.{Ended, StopCause};
 ghost use Rattle.lop_pool.specs.declared.pool.TheConstants.{MAX_WORKERS};
+ghost use Rattle.lop_core.specs.declared.search.TheConstants.{MAX_BUDGET};
 
 use crate::certificate::{begin_certificate, leave_certificate};
 use crate::input::{Instance, read_input};
@@ -106,7 +107,7 @@ pub fn solve<R: Threads + Sync, D: Desk, G: Gate>(
     requires some { 1 ≤ workers }
     requires at_most { workers ≤ MAX_WORKERS }
     requires positive { 1 ≤ nodes }
-    requires within_limit { nodes ≤ 1000000 }
+    requires within_limit { nodes ≤ MAX_BUDGET }
     ensures later { D.faults desk.old ≤ D.faults desk.new }
     ensures ended { Ended (Some (Solve format file.now workers nodes cert)) (D.told desk.old) (D.told desk.new) (D.faults desk.old) (D.faults desk.new) (number result) }
 {
@@ -128,7 +129,7 @@ fn solve_file<R: Threads + Sync, D: Desk, G: Gate>(
     requires some { 1 ≤ workers }
     requires at_most { workers ≤ MAX_WORKERS }
     requires positive { 1 ≤ nodes }
-    requires within_limit { nodes ≤ 1000000 }
+    requires within_limit { nodes ≤ MAX_BUDGET }
     ensures world { LeavesAll (D.told desk.old) (D.told desk.new) }
     ensures later { D.faults desk.old ≤ D.faults desk.new }
     ensures right { IfOk result (λ x. IsRight (files_of (D.told desk.old)) (Some (Solve format file.now workers nodes cert)) (done_status (solution_optimal x)) (solution_text x) (LeavesCertificate x.cert x.core)) }
@@ -154,7 +155,7 @@ fn solve_instance<R: Threads + Sync, D: Desk, G: Gate>(
     requires some { 1 ≤ workers }
     requires at_most { workers ≤ MAX_WORKERS }
     requires positive { 1 ≤ nodes }
-    requires within_limit { nodes ≤ 1000000 }
+    requires within_limit { nodes ≤ MAX_BUDGET }
     requires of_size { IsOfSize input.weights.size input.profile }
     requires decimals { input.decimals ≤ MAX_DECIMALS }
     ensures world { LeavesAll (D.told desk.old) (D.told desk.new) }

@@ -6,6 +6,7 @@ use Rattle.lop_certwrite.proofs.Limits.{has_text}
 use Rattle.lop_certwrite.proofs.TreeSize.{evaluated_in_tree}
 use Rattle.lop_certwrite.proofs.WalkLemmas.{tree_inside}
 use Rattle.lop_certwrite.proofs.writer.write_certificate.Goals as goal
+use Rattle.lop_core.specs.declared.search.TheConstants.{MAX_BUDGET}
 
 pub record_of-requires : goal.record_of-requires
 record_of-requires g c =
@@ -20,7 +21,7 @@ find-requires-clause-linked g c = core_linked c.args.core.now c.evaluated.ensure
 
 pub returns-clause-has_text : goal.returns-clause-has_text
 returns-clause-has_text g c =
-    let few : c.args.core.now.state.evaluated ≤ 1000000 = omega (arith, c.evaluated.ensures.value, c.evaluated.ensures.within_budget, c.budget.ensures.value, c.budget.ensures.within_limit) in
+    let few : c.args.core.now.state.evaluated ≤ MAX_BUDGET = omega (arith, c.evaluated.ensures.value, c.evaluated.ensures.within_budget, c.budget.ensures.value, c.budget.ensures.within_limit) in
     has_text c.args.core.now c.evaluated.ensures.history c.cuts.ensures.recorded c.cuts.ensures.book c.record_of.ensures.terms few
 
 pub returns-clause-evaluated : goal.returns-clause-evaluated

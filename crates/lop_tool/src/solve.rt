@@ -172,15 +172,32 @@ fn solve_instance<R: Threads + Sync, D: Desk, G: Gate>(
         return Err(Stop::Memory);
     };
     match begin_certificate(&cert, desk) {
-        Ok(()) => {
-            let core = search.run(means, &input.weights);
-            Ok(Solution {
-                input,
-                core,
-                cert,
-                names,
-            })
-        }
+        Ok(()) => Ok(searched(means, input, search, cert, names)),
         Err(stop) => Err(stop),
+    }
+}
+
+/// Searches the instance. It takes no memory: that for writing the certificate was taken before, as the search's own.
+fn searched<R: Threads + Sync, G: Gate>(
+    means: &Means<R, G>,
+    input: Instance,
+    search: Search,
+    cert: Option<NameWord>,
+    names: WriteRoom,
+) -> Solution
+    requires weights { input.weights ≡ search.problem.weights }
+    requires of_size { IsOfSize input.weights.size input.profile }
+    requires decimals { input.decimals ≤ MAX_DECIMALS }
+    requires for_budget { search.problem.budget ≤ names }
+    ensures solves { SolvesInstance input search.problem.budget cert result }
+    ensures printable { IsPrintable result }
+    ensures for_budget { result.core.problem.budget ≤ result.names }
+{
+    let core = search.run(means, &input.weights);
+    Solution {
+        input,
+        core,
+        cert,
+        names,
     }
 }

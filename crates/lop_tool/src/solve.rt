@@ -185,7 +185,7 @@ fn searched<R: Threads + Sync, G: Gate>(
     cert: Option<NameWord>,
     names: WriteRoom,
 ) -> Solution
-    requires weights { input.weights ≡ search.problem.weights }
+    requires weights { search.problem.weights ≡ input.weights }
     requires of_size { IsOfSize input.weights.size input.profile }
     requires decimals { input.decimals ≤ MAX_DECIMALS }
     requires for_budget { search.problem.budget ≤ names }

@@ -3,6 +3,7 @@
 ghost use Rattle.std.specs.Prelude.{◌≡◌, ◌<◌, ◌≤◌, length, All, IfOk};
 ghost use Rattle.lop_cuts.specs.Kind.{FitsCut};
 
+use crate::seen::Seen;
 use lop_ascent::{AscentRoom, RowReply};
 use lop_cuts::{Cut, CutKind, CutList, Point};
 use lop_model::Pair;
@@ -156,6 +157,17 @@ fn write_levels(point: &Point, list: &CutList, levels: &mut [u8])
     }
 }
 
+/// Leaves no cut that hasn't been seen to be taken. O(cuts).
+fn forget_new(list: &CutList, seen: &Seen, levels: &mut [u8])
+    requires { length list.now.cuts ≤ length levels.old }
+{
+    for k in 0..list.len() {
+        if levels[k] > 0 && !seen.has(list.get(k)) {
+            levels[k] = 0;
+        }
+    }
+}
+
 /// Which cuts are taken: those of a level of violation, the spread ones alone or all.
 #[derive(Clone, Copy)]
 struct Sought {
@@ -281,11 +293,13 @@ impl Choice {
         Taken { taken: 0, added: 0 }
     }
 
-    /// Adds cuts of the list as rows, until the round has taken 128. Answers how many it has taken then.
+    /// Adds cuts of the list as rows, until the round has taken 128: where no new cut is to come, those that were seen
+    /// alone. Answers how many it has taken then.
     pub fn take(
         &mut self,
         point: &Point,
         list: &CutList,
+        seen: &Seen,
         ascent: &mut AscentRoom,
         before: Taken,
     ) -> Taken
@@ -295,6 +309,9 @@ impl Choice {
         ensures size { ascent.new.size ≡ ascent.old.size }
     {
         write_levels(point, list, &mut self.levels);
+        if seen.is_closed() {
+            forget_new(list, seen, &mut self.levels);
+        }
         let some = take_levels(list, &mut self.levels, &mut self.uses, ascent, true, before);
         take_levels(list, &mut self.levels, &mut self.uses, ascent, false, some)
     }

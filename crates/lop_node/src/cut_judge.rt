@@ -143,11 +143,13 @@ impl Judge for CutJudge {
     }
 
     fn judge(&mut self, weights: &Weights, ticket: &Ticket, into: &mut Evaluated) {
+        self.rounds.note(ticket.inherited());
         self.packs.judge(weights, ticket, into);
         if into.bound() > ticket.best() {
             if let Some(first) = into.pair() {
                 self.improve(weights, ticket, first, into);
             }
         }
+        self.rounds.note(into.shown());
     }
 }

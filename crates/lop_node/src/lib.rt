@@ -12,8 +12,10 @@ mod judge;
 mod margins;
 mod pack_judge;
 mod pool;
+mod pruning;
 mod rounds;
 mod search;
+mod seen;
 mod start;
 #[cfg(test)]
 mod tests;

@@ -9,7 +9,9 @@ use crate::choice::{Choice, Taken};
 use crate::inherited::add_rows;
 use crate::margins::Margins;
 use crate::pool::Pool;
+use crate::pruning::Pruning;
 use crate::search::{find_dicycles, find_fences, find_ladders};
+use crate::seen::Seen;
 use crate::start::start_rows;
 use lop_ascent::AscentRoom;
 use lop_climb::{ClimbRoom, climb, start_order};
@@ -78,6 +80,8 @@ pub struct Rounds {
     sums: Vec<u64>,
     next: Order,
     climb: ClimbRoom,
+    seen: Seen,
+    pruning: Pruning,
     rounded: LeafRecord,
     best: Order,
 }
@@ -168,6 +172,8 @@ impl Rounds {
         let orders = Orders::new(alloc, n)?;
         let ascent = AscentRoom::new(alloc, n)?;
         let point = Point::new(alloc, n)?;
+        let seen = Seen::new(alloc)?;
+        let pruning = Pruning::new(alloc, n)?;
         let rounded = LeafRecord::new(alloc)?;
         Ok(Rounds {
             size: n,
@@ -181,6 +187,8 @@ impl Rounds {
             sums: orders.sums,
             next: orders.next,
             climb: orders.climb,
+            seen,
+            pruning,
             rounded,
             best: orders.best,
         })
@@ -226,6 +234,13 @@ impl Rounds {
         self.rounded.copy_from(shown);
     }
 
+    /// Notes the cuts of a record as seen: that of a ticket or of a result.
+    pub fn note(&mut self, shown: &LeafRecord)
+        ensures { self.new ≡ self.old }
+    {
+        self.seen.note_all(shown);
+    }
+
     /// Solving in rounds, from the rows of a record: at most 10, each with at most 128 new cuts. They end where the
     /// bound is at most the best weight known, where no new row was found and a longer run gains little, and after four
     /// rounds that dicycles didn't fill.
@@ -259,6 +274,7 @@ impl Rounds {
             }
         }
         self.keep_ladders();
+        self.prune(weights, fixings, best);
     }
 
     /// The rows of the record, with its multipliers, others beside them, and the order to start with.
@@ -276,7 +292,7 @@ impl Rounds {
         }
         self.ascent.load(weights, fixings);
         add_rows(&mut self.ascent, start);
-        if self.ascent.len() < MOST_INHERITED {
+        if self.ascent.len() < MOST_INHERITED && !self.seen.is_closed() {
             self.start_rows(weights, fixings, start);
         }
     }
@@ -426,6 +442,7 @@ impl Rounds {
         take_found(
             &self.point,
             &self.found,
+            &self.seen,
             &mut self.choice,
             &mut self.ascent,
             none,
@@ -436,10 +453,14 @@ impl Rounds {
     fn add_fences(&mut self, before: Taken) -> Taken
         ensures { self.new.size ≡ self.old.size }
     {
+        if self.seen.is_closed() {
+            return before;
+        }
         find_fences(&self.point, before.rest() as usize, &mut self.found);
         take_found(
             &self.point,
             &self.found,
+            &self.seen,
             &mut self.choice,
             &mut self.ascent,
             before,
@@ -456,11 +477,12 @@ impl Rounds {
         let some = take_found(
             &self.point,
             &self.found,
+            &self.seen,
             &mut self.choice,
             &mut self.ascent,
             before,
         );
-        if kept >= ENOUGH_KEPT {
+        if kept >= ENOUGH_KEPT || self.seen.is_closed() {
             return some;
         }
         self.add_new_ladders(some)
@@ -473,6 +495,7 @@ impl Rounds {
         take_found(
             &self.point,
             &self.found,
+            &self.seen,
             &mut self.choice,
             &mut self.ascent,
             before,
@@ -485,12 +508,24 @@ impl Rounds {
     {
         self.pool.keep(&self.rounded);
     }
+
+    /// Prunes the record, where `best` is the greatest weight that is known but for that of the best order.
+    fn prune(&mut self, weights: &Weights, fixings: &Fixings, best: i128)
+        requires weights { self.old.size ≡ weights.now.size }
+        requires fixings { fixings.now.size ≡ weights.now.size }
+        ensures { self.new.size ≡ self.old.size }
+    {
+        let best = best.max(value(weights, &self.best));
+        self.pruning
+            .prune(weights, fixings, &self.seen, best, &mut self.rounded);
+    }
 }
 
 /// Adds some of the cuts that were found as rows.
 fn take_found(
     point: &Point,
     found: &CutList,
+    seen: &Seen,
     choice: &mut Choice,
     ascent: &mut AscentRoom,
     before: Taken,
@@ -501,7 +536,7 @@ fn take_found(
     ensures size { ascent.new.size ≡ ascent.old.size }
 {
     let _free = found.free();
-    choice.take(point, found, ascent, before)
+    choice.take(point, found, seen, ascent, before)
 }
 
 /// Rounds the hints of the rows to a record. O(rows).

@@ -1,9 +1,12 @@
 ghost use Rattle.std.specs.Prelude.{◌≡◌, OnOk, length};
+ghost use Rattle.lop_leaf.specs.Record.{FitTerms};
 ghost use Rattle.lop_leaf.specs.Sound.{IsSoundTicket};
 
+use crate::pruning::Pruning;
+use crate::seen::Seen;
 use crate::{CutJudge, Judge, PackJudge};
 use lop_fix::Fixings;
-use lop_leaf::{Evaluated, LeafRecord, PairRoom, Ticket, upper};
+use lop_leaf::{Evaluated, LeafRecord, PairRoom, Ticket, packing, upper};
 use lop_model::{Pair, Weights};
 use std::alloc::{AllocError, Global};
 use std::test::Fail;
@@ -143,6 +146,79 @@ fn a_judge_that_cuts(rt: HostRuntime) -> Result<(), Fail> {
     let sectors: [i64; 9] = [0, 5, 1, 2, 0, 4, 3, 1, 0];
     assert_eq!(rt; root_by_cuts(rt.alloc(), 6, &fence)?, Some((14, 14)));
     assert_eq!(rt; root_by_cuts(rt.alloc(), 3, &sectors)?, Some((10, 10)));
+    Ok(())
+}
+
+// Fixes the first pair that isn't, its lesser object first.
+fn fix_first(fixings: &mut Fixings)
+    ensures { fixings.new.size ≡ fixings.old.size }
+{
+    if let Some(pair) = fixings.first_undecided() {
+        fixings.add(pair);
+    }
+}
+
+// Prunes what packing leaves at the root: the terms that are left, and the value that they show.
+fn pruned(
+    weights: &Weights,
+    fixings: &Fixings,
+    best: i128,
+    room: &mut PairRoom,
+    pruning: &mut Pruning,
+    seen: &Seen,
+    packed: &mut LeafRecord,
+) -> (usize, i128)
+    requires same_n { fixings.now.size ≡ weights.now.size }
+    requires room { room.old ≡ weights.now.size }
+    requires fit { FitTerms weights.now.size packed.old.terms }
+{
+    pruning.prune(weights, fixings, seen, best, packed);
+    let value = upper(weights, fixings, packed, room);
+    (packed.len(), value)
+}
+
+// The same, at the root or where the first pair is fixed.
+fn pruned_at(
+    alloc: Global,
+    weights: &Weights,
+    is_fixed: bool,
+    best: i128,
+) -> Result<(usize, i128), AllocError> {
+    let n = weights.n();
+    let mut fixings = Fixings::new(alloc, n)?;
+    let mut room = PairRoom::new(alloc, n)?;
+    let mut packed = LeafRecord::new(alloc)?;
+    let mut pruning = Pruning::new(alloc, n)?;
+    let seen = Seen::new(alloc)?;
+    let _bound = packing(weights, &fixings, &mut packed, &mut room);
+    if is_fixed {
+        fix_first(&mut fixings);
+    }
+    Ok(pruned(
+        weights,
+        &fixings,
+        best,
+        &mut room,
+        &mut pruning,
+        &seen,
+        &mut packed,
+    ))
+}
+
+// A cycle from 1 by 0 and 2, of weight 2 each: its term takes 2 from the 6 that the pairs give. Where 0 is fixed before
+// 1, the pairs alone give 4.
+#[test]
+fn a_needless_term_goes(rt: HostRuntime) -> Result<(), Fail> {
+    let alloc = rt.alloc();
+    let cycle: [i64; 9] = [0, 0, 2, 2, 0, 0, 0, 2, 0];
+    let Ok(weights) = Weights::new(3, cycle.to_vec(alloc)?) else {
+        return Ok(());
+    };
+    assert_eq!(rt; pruned_at(alloc, &weights, false, 3)?, (1, 4));
+    assert_eq!(rt; pruned_at(alloc, &weights, false, 4)?, (1, 4));
+    assert_eq!(rt; pruned_at(alloc, &weights, false, 6)?, (0, 6));
+    assert_eq!(rt; pruned_at(alloc, &weights, true, 3)?, (1, 4));
+    assert_eq!(rt; pruned_at(alloc, &weights, true, 4)?, (0, 4));
     Ok(())
 }
 

@@ -180,45 +180,46 @@ fn pruned(
 // The same, at the root or where the first pair is fixed.
 fn pruned_at(
     alloc: Global,
-    weights: &Weights,
+    n: u16,
+    entries: &[i64],
     is_fixed: bool,
     best: i128,
-) -> Result<(usize, i128), AllocError> {
+) -> Result<Option<(usize, i128)>, Fail> {
+    let Ok(weights) = Weights::new(n, entries.to_vec(alloc)?) else {
+        return Ok(None);
+    };
     let n = weights.n();
     let mut fixings = Fixings::new(alloc, n)?;
     let mut room = PairRoom::new(alloc, n)?;
     let mut packed = LeafRecord::new(alloc)?;
     let mut pruning = Pruning::new(alloc, n)?;
     let seen = Seen::new(alloc)?;
-    let _bound = packing(weights, &fixings, &mut packed, &mut room);
+    let _bound = packing(&weights, &fixings, &mut packed, &mut room);
     if is_fixed {
         fix_first(&mut fixings);
     }
-    Ok(pruned(
-        weights,
+    Ok(Some(pruned(
+        &weights,
         &fixings,
         best,
         &mut room,
         &mut pruning,
         &seen,
         &mut packed,
-    ))
+    )))
 }
 
 // A cycle from 1 by 0 and 2, of weight 2 each: its term takes 2 from the 6 that the pairs give. Where 0 is fixed before
-// 1, the pairs alone give 4.
+// 1, the pairs give 4 without it.
 #[test]
 fn a_needless_term_goes(rt: HostRuntime) -> Result<(), Fail> {
     let alloc = rt.alloc();
     let cycle: [i64; 9] = [0, 0, 2, 2, 0, 0, 0, 2, 0];
-    let Ok(weights) = Weights::new(3, cycle.to_vec(alloc)?) else {
-        return Ok(());
-    };
-    assert_eq!(rt; pruned_at(alloc, &weights, false, 3)?, (1, 4));
-    assert_eq!(rt; pruned_at(alloc, &weights, false, 4)?, (1, 4));
-    assert_eq!(rt; pruned_at(alloc, &weights, false, 6)?, (0, 6));
-    assert_eq!(rt; pruned_at(alloc, &weights, true, 3)?, (1, 4));
-    assert_eq!(rt; pruned_at(alloc, &weights, true, 4)?, (0, 4));
+    assert_eq!(rt; pruned_at(alloc, 3, &cycle, false, 3)?, Some((1, 4)));
+    assert_eq!(rt; pruned_at(alloc, 3, &cycle, false, 4)?, Some((1, 4)));
+    assert_eq!(rt; pruned_at(alloc, 3, &cycle, false, 6)?, Some((0, 6)));
+    assert_eq!(rt; pruned_at(alloc, 3, &cycle, true, 3)?, Some((1, 4)));
+    assert_eq!(rt; pruned_at(alloc, 3, &cycle, true, 4)?, Some((0, 4)));
     Ok(())
 }
 

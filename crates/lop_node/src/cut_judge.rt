@@ -88,6 +88,7 @@ impl CutJudge {
             into.order(),
             ticket.best(),
         );
+        self.rounds.prune(weights, &self.fixings, ticket.best());
         let pair = branching_pair(
             weights,
             &self.fixings,

@@ -274,7 +274,18 @@ impl Rounds {
             }
         }
         self.keep_ladders();
-        self.prune(weights, fixings, best);
+    }
+
+    /// Leaves of the record what its bound needs, where that is at most the best weight known or the room for cuts fills
+    /// up. `best` is the greatest weight that is known but for that of the best order.
+    pub fn prune(&mut self, weights: &Weights, fixings: &Fixings, best: i128)
+        requires weights { self.old.size ≡ weights.now.size }
+        requires fixings { fixings.now.size ≡ weights.now.size }
+        ensures { self.new.size ≡ self.old.size }
+    {
+        let best = best.max(value(weights, &self.best));
+        self.pruning
+            .prune(weights, fixings, &self.seen, best, &mut self.rounded);
     }
 
     /// The rows of the record, with its multipliers, others beside them, and the order to start with.
@@ -507,17 +518,6 @@ impl Rounds {
         ensures { self.new.size ≡ self.old.size }
     {
         self.pool.keep(&self.rounded);
-    }
-
-    /// Prunes the record, where `best` is the greatest weight that is known but for that of the best order.
-    fn prune(&mut self, weights: &Weights, fixings: &Fixings, best: i128)
-        requires weights { self.old.size ≡ weights.now.size }
-        requires fixings { fixings.now.size ≡ weights.now.size }
-        ensures { self.new.size ≡ self.old.size }
-    {
-        let best = best.max(value(weights, &self.best));
-        self.pruning
-            .prune(weights, fixings, &self.seen, best, &mut self.rounded);
     }
 }
 

@@ -35,7 +35,7 @@ returns-else-before-bound-clause-sound c =
     let bound = to_z-of_z w128 b fits_bound in
     let closure : IsClosure t.path f.pairs = subst (λ (F : List Pair). IsClosure F f.pairs) c.path.ensures.path c.fix_path.ensures.closure in
     let size : f.size ≡ C.size = c.fix_path.ensures.size ∙ c.self.invariant.0 ∙ c.self.view_is ∙ c.requires.same_n in
-    let rooms : c.run.new.self.size ≡ C.size = c.run.ensures ∙ c.self.invariant.2 ∙ c.self.view_is ∙ c.requires.same_n in
+    let rooms : c.prune.new.self.size ≡ C.size = c.prune.ensures ∙ c.run.ensures ∙ c.self.invariant.2 ∙ c.self.view_is ∙ c.requires.same_n in
     let undecided : IsUndecided C.size f.pairs p.before p.after = subst (λ (n : ℕ). IsUndecided n f.pairs p.before p.after) size c.branching_pair-pair.ensures in
     let fit : FitTerms C.size shown.terms = subst (λ (n : ℕ). FitTerms n shown.terms) rooms c.rounded.ensures.fit in
     let cuts : HasCutsBelow C.size shown.terms = record { cuts = c.record_bound-bound.ensures.terms.cuts; fit = fit } in

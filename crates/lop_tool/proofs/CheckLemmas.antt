@@ -7,12 +7,11 @@ use Rattle.lop_tool.specs.Names.{World, NamedFile, file_named, unread, with_open
 use Rattle.lop_tool.specs.Names.{IsCheckAnswer, accepted, too_long, Command, Check, Format, Instance, Refusal, Input}
 use Rattle.lop_tool.specs.Names.{LongCertificate, Rejection, Outcome, Accepted, Rejected, Stop, Rose, is_optimal, accepted_text}
 use Rattle.lop_tool.specs.declared.rejection.Rejection.TheVariants.{Certificate}
-use Rattle.lop_tool.specs.Told.{files_of, at_rest}
-use Rattle.lop_tool.specs.Input.{input_named}
-use Rattle.lop_tool.specs.Check.{GivesAnswer, IsChecked, rejected_for, RejectsCertificate, IsLongCertificate, answer_of, outcome_text, outcome_status, IsBounded, AnswersRest, RestStop, AnswersNamed, NamedStop}
-use Rattle.lop_tool.specs.Steps.{RefusesFirst}
+use Rattle.lop_tool.specs.{Told.files_of, Told.at_rest, Input.input_named, Check.GivesAnswer, Check.IsChecked}
+use Rattle.lop_tool.specs.{Check.rejected_for, Check.RejectsCertificate, Check.IsLongCertificate, Check.answer_of}
+use Rattle.lop_tool.specs.{Check.outcome_text, Check.outcome_status, Check.IsBounded, Check.AnswersRest, Check.RestStop}
+use Rattle.lop_tool.specs.{Check.AnswersNamed, Check.NamedStop, Steps.RefusesFirst, Ended.StopCause, Ended.NoFile}
 use Rattle.lop_tool.specs.Reply.{IsAccepted, IsRejection, IsFirstRefusal, IsReply, done, rejected as rejected_reply, IsRight}
-use Rattle.lop_tool.specs.Ended.{StopCause, NoFile}
 use Rattle.lop_tool.proofs.Ends.{right_alone}
 use Rattle.lop_tool.proofs.Stops.{told_files, told_map, told_both, told_before, err_map, second_file}
 

@@ -7,10 +7,8 @@ use Rattle.lop_tool.specs.Names.{accepted, rejected, too_long, IsCheckAnswer, is
 use Rattle.lop_tool.specs.Names.{Refusal, LongCertificate, Input, Rejection, Status, Outcome, Accepted, Rejected, Stop}
 use Rattle.lop_tool.specs.declared.status.Status.TheVariants as status
 use Rattle.lop_tool.specs.declared.rejection.Rejection.TheVariants.{Certificate}
-use Rattle.lop_tool.specs.Status.{done_status}
-use Rattle.lop_tool.specs.Rejection.{rejection_line}
-use Rattle.lop_tool.specs.Input.{input_named}
-use Rattle.lop_tool.specs.Steps.{Steps, RefusesFirst, StopsFor}
+use Rattle.lop_tool.specs.{Status.done_status, Rejection.rejection_line, Input.input_named, Steps.Steps}
+use Rattle.lop_tool.specs.{Steps.RefusesFirst, Steps.StopsFor}
 
 -- the checker's answer for the bytes under a name
 pub record GivesAnswer (C : Matrix) (name : List ℕ) (files : List NamedFile) (answer : CheckAnswer) : Type 0 where

@@ -4,11 +4,8 @@ use Rattle.std.specs.List.{Any}
 use Rattle.lop_tool.specs.Names.{World, NamedFile, Rose, IsMissing, Command, Status, Stop}
 use Rattle.lop_tool.specs.declared.status.Status.TheVariants as status
 use Rattle.lop_tool.specs.declared.stop.Stop.TheVariants as stop
-use Rattle.lop_tool.specs.Status.{number}
-use Rattle.lop_tool.specs.Told.{files_of, at_rest, with_file, Leaves, LeavesAll}
-use Rattle.lop_tool.specs.Refusal.{refusal_line}
-use Rattle.lop_tool.specs.Steps.{StopsFor}
-use Rattle.lop_tool.specs.Reply.{reads, IsFirstRefusal, IsReply}
+use Rattle.lop_tool.specs.{Status.number, Told.files_of, Told.at_rest, Told.with_file, Told.Leaves, Told.LeavesAll}
+use Rattle.lop_tool.specs.{Refusal.refusal_line, Steps.StopsFor, Reply.reads, Reply.IsFirstRefusal, Reply.IsReply}
 
 -- the files that are read
 abbrev pub reads_of : Option Command → List (List ℕ)

@@ -2,8 +2,7 @@
 use Rattle.std.specs.Prelude.{◌≡◌, ℕ, Bool, List, Option, None, []}
 use Rattle.lop_gen.specs.Generated.{generated_matrix}
 use Rattle.lop_tool.specs.Names.{NamedFile, CoreFields, is_optimal, gen_text, Generation}
-use Rattle.lop_tool.specs.Search.{Found, found_of, IsSearchOf}
-use Rattle.lop_tool.specs.Steps.{Steps}
+use Rattle.lop_tool.specs.{Search.Found, Search.found_of, Search.IsSearchOf, Steps.Steps}
 
 -- this was found in the weights that the seed gives with ten nodes at most, and the text tells its numbers, which are whole
 pub record Generates (seed n : ℕ) (optimal : Bool) (text : List ℕ) (left : Option NamedFile) : Type 0 where

@@ -2,14 +2,8 @@
 use Rattle.std.specs.Prelude.{◌≡◌, Bool, List, ℕ, Option, None, Some, IfSome}
 use Rattle.lop_tool.specs.Names.{NamedFile, Command, Solve, Check, Value, Gen, Status, Refusal, Rejection}
 use Rattle.lop_tool.specs.declared.status.Status.TheVariants as status
-use Rattle.lop_tool.specs.Status.{done_status}
-use Rattle.lop_tool.specs.Refusal.{refusal_line, words_line}
-use Rattle.lop_tool.specs.Rejection.{rejection_line}
-use Rattle.lop_tool.specs.Steps.{Steps}
-use Rattle.lop_tool.specs.Solve.{solve_steps}
-use Rattle.lop_tool.specs.Check.{check_steps}
-use Rattle.lop_tool.specs.Value.{value_steps}
-use Rattle.lop_tool.specs.Gen.{gen_steps}
+use Rattle.lop_tool.specs.{Status.done_status, Refusal.refusal_line, Refusal.words_line, Rejection.rejection_line}
+use Rattle.lop_tool.specs.{Steps.Steps, Solve.solve_steps, Check.check_steps, Value.value_steps, Gen.gen_steps}
 
 -- the steps of each command, and with them its promise: the one line for a command
 abbrev pub steps_of : Command → Steps

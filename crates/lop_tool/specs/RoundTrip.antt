@@ -2,8 +2,7 @@
 use Rattle.std.specs.Prelude.{◌≡◌, ◌⊎◌, ℕ, ◌≤◌, List, Option, Some, IfSome}
 use Rattle.lop_tool.specs.Names.{World, Rose, Command, Solve, Check, Format}
 use Rattle.lop_tool.specs.declared.status.Status.TheVariants as status
-use Rattle.lop_tool.specs.Status.{number, IsDoneNumber}
-use Rattle.lop_tool.specs.Ended.{Ended}
+use Rattle.lop_tool.specs.{Status.number, Status.IsDoneNumber, Ended.Ended}
 
 -- one run ended, and then the other, which began where the first left the world
 pub record BothEnded (first second : Option Command) (old new : Option World) (before now solved checked : ℕ) : Type 0 where

@@ -4,15 +4,10 @@ use Rattle.std.specs.List.{Any}
 use Rattle.lop_tool.specs.Names.{World, NamedFile, Rose, IsMissing, Command, Solve, Check, Value, Gen, Format, Status}
 use Rattle.lop_tool.specs.Names.{Refusal, Rejection}
 use Rattle.lop_tool.specs.declared.status.Status.TheVariants as status
-use Rattle.lop_tool.specs.Status.{number, done_status, IsDoneNumber}
-use Rattle.lop_tool.specs.Told.{files_of, Leaves, PrintsOnly}
-use Rattle.lop_tool.specs.Refusal.{refusal_line}
-use Rattle.lop_tool.specs.Rejection.{rejection_line}
-use Rattle.lop_tool.specs.Solve.{Solves}
-use Rattle.lop_tool.specs.Check.{Accepts}
-use Rattle.lop_tool.specs.Value.{Weighs}
-use Rattle.lop_tool.specs.Gen.{Generates}
-use Rattle.lop_tool.specs.Reply.{reads, IsFirstRefusal, IsRejection, IsAccepted}
+use Rattle.lop_tool.specs.{Status.number, Status.done_status, Status.IsDoneNumber, Told.files_of, Told.Leaves}
+use Rattle.lop_tool.specs.{Told.PrintsOnly, Refusal.refusal_line, Rejection.rejection_line, Solve.Solves, Check.Accepts}
+use Rattle.lop_tool.specs.{Value.Weighs, Gen.Generates, Reply.reads, Reply.IsFirstRefusal, Reply.IsRejection}
+use Rattle.lop_tool.specs.{Reply.IsAccepted}
 
 -- the number is that of the status exactly where the fact holds; it yields to want of memory and to a fault
 pub record ExactlyWhere (n : ℕ) (s : Status) (fact fault : Type 0) : Type 0 where

@@ -2,10 +2,9 @@
 use Rattle.std.specs.Prelude.{◌≡◌, ◌≤◌, ◌^◌, ℕ, Bool, List, length, unsigned_abs, Option, Some, IfSome, Ok, [], ◌∷◌}
 use Rattle.lop_tool.specs.Names.{World, NamedFile, CoreFields, is_optimal, solve_text, Format, Instance, Solution, Input}
 use Rattle.lop_report.specs.declared.decimal.TheConstants.{MAX_DECIMALS}
-use Rattle.lop_tool.specs.Input.{input_named, IsOfSize}
-use Rattle.lop_tool.specs.Search.{Found, found_of, IsSearchOf}
-use Rattle.lop_tool.specs.Certificate.{HasBegun, LeavesCertificate}
-use Rattle.lop_tool.specs.Steps.{Steps, RefusesFirst, NoMore}
+use Rattle.lop_tool.specs.{Input.input_named, Input.IsOfSize, Search.Found, Search.found_of, Search.IsSearchOf}
+use Rattle.lop_tool.specs.{Certificate.HasBegun, Certificate.LeavesCertificate, Steps.Steps, Steps.RefusesFirst}
+use Rattle.lop_tool.specs.{Steps.NoMore}
 
 -- the text of what was found in an instance
 abbrev pub found_text : Instance → Found → List ℕ

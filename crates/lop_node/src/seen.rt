@@ -1,8 +1,11 @@
 // Which cuts have stood in records that a judge inherited or left: the search keeps these, and has room for 65,536. A
 // cut is known by a mark, which others may share, so that no more is proved of the table than that it is safe.
+ghost use Rattle.std.specs.Prelude.{◌≡◌, ◌+◌, ◌/◌, ◌≤◌, length, min, nat_le, IfOk};
+
 use lop_cuts::{Cut, CutKind, Cycle};
 use lop_leaf::LeafRecord;
 use std::alloc::{AllocError, Global};
+use std::marker::Model;
 
 /// The places of the table. The upper 17 bits of a mark number them.
 const PLACES: usize = 131_072;
@@ -16,11 +19,25 @@ const CUTS_A_LEVEL: usize = 8_192;
 /// The greatest level.
 const LAST_LEVEL: usize = 6;
 
-/// The marks of the cuts, each from where its upper bits point to on. 0 stands where there is none.
+/// So many cuts make the greatest level.
+const MOST_OPEN: usize = 49_152;
+
+/// The marks of the cuts, each from where its upper bits point to on: 0 stands where there is none. A contract sees how
+/// many there are.
 #[derive(Drop)]
 pub struct Seen {
     marks: Vec<u64>,
     count: usize,
+}
+
+impl Model for Seen {
+    ghost use Rattle.std.specs.Prelude.{ℕ, ◌≤◌};
+
+    ghost Value = { ℕ };
+
+    ghost view = { λ s. s.count };
+
+    ghost invariant = { λ s. s.count ≤ 65536 };
 }
 
 /// The mark of what was marked and a number more.
@@ -63,7 +80,9 @@ fn read(marks: &[u64], place: usize) -> u64 {
 
 impl Seen {
     /// No cut. It takes 1 MB.
-    pub fn new(alloc: Global) -> Result<Self, AllocError> {
+    pub fn new(alloc: Global) -> Result<Self, AllocError>
+        ensures { IfOk result (λ s. s ≡ 0) }
+    {
         Ok(Seen {
             marks: vec![in alloc; 0; PLACES]?,
             count: 0,
@@ -71,13 +90,17 @@ impl Seen {
     }
 
     /// How hard it presses that the search has room for so many cuts only: from 0 to 6.
-    pub fn level(&self) -> u32 {
+    pub fn level(&self) -> u32
+        ensures { result ≡ min (self.now / 8192) 6 }
+    {
         (self.count / CUTS_A_LEVEL).min(LAST_LEVEL) as u32
     }
 
-    /// Whether the room is left to what is on its way: no cut is to come that has not been seen.
-    pub fn is_closed(&self) -> bool {
-        self.count / CUTS_A_LEVEL >= LAST_LEVEL
+    /// Whether it presses so hard that no cut is to come that wasn't seen.
+    pub fn is_closed(&self) -> bool
+        ensures { result ≡ nat_le 49152 self.now }
+    {
+        self.count >= MOST_OPEN
     }
 
     /// The place at which a mark stands, or the free one at which it would.
@@ -94,13 +117,16 @@ impl Seen {
     }
 
     /// Whether a cut was noted. O(objects).
-    pub fn has(&self, cut: &Cut) -> bool {
+    pub(crate) fn has(&self, cut: &Cut) -> bool {
         let mark = mark_of(cut);
         read(&self.marks, self.place_of(mark)) == mark
     }
 
     /// Notes a cut, as long as there is room. O(objects).
-    fn note(&mut self, cut: &Cut) {
+    fn note(&mut self, cut: &Cut)
+        ensures no_fewer { self.old ≤ self.new }
+        ensures at_most { self.new ≤ self.old + 1 }
+    {
         let mark = mark_of(cut);
         let place = self.place_of(mark);
         if self.count < MOST_SEEN && place < self.marks.len() && self.marks[place] == 0 {
@@ -110,7 +136,10 @@ impl Seen {
     }
 
     /// Notes the cuts of a record. O(objects of all).
-    pub fn note_all(&mut self, shown: &LeafRecord) {
+    pub fn note_all(&mut self, shown: &LeafRecord)
+        ensures no_fewer { self.old ≤ self.new }
+        ensures at_most { self.new ≤ self.old + length shown.now.terms }
+    {
         for index in 0..shown.len() {
             self.note(&shown.term(index).cut);
         }

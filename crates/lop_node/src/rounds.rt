@@ -33,7 +33,7 @@ const MOST_LADDER_ROUNDS: u32 = 4;
 /// How many ladders a search may find.
 const MOST_LADDERS: usize = 200;
 
-/// How many violated ladders of the pool save a search for new ones.
+/// How many violated ladders of the pool save a search for new ones, halved at each level of pressure.
 const ENOUGH_KEPT: usize = 32;
 
 /// A record of so many terms gets no rows beside its own.
@@ -493,7 +493,7 @@ impl Rounds {
             &mut self.ascent,
             before,
         );
-        if kept >= ENOUGH_KEPT || self.seen.is_closed() {
+        if kept >= ENOUGH_KEPT >> self.seen.level() || self.seen.is_closed() {
             return some;
         }
         self.add_new_ladders(some)

@@ -7,11 +7,11 @@ use lop_leaf::LeafRecord;
 use std::alloc::{AllocError, Global};
 use std::marker::Model;
 
-/// The places of the table. The upper 17 bits of a mark number them.
-const PLACES: usize = 131_072;
+/// The places of the table. The upper 16 bits of a mark number them.
+const PLACES: usize = 65_536;
 
-/// The most cuts that are noted: as many as the search has room for.
-const MOST_SEEN: usize = 65_536;
+/// The most cuts that are noted: more than make the greatest level, and few enough for the table.
+const MOST_SEEN: usize = 57_344;
 
 /// So many cuts make a level of pressure.
 const CUTS_A_LEVEL: usize = 8_192;
@@ -26,7 +26,7 @@ const MOST_OPEN: usize = 49_152;
 /// many there are.
 #[derive(Drop)]
 pub struct Seen {
-    marks: Vec<u64>,
+    marks: Vec<u32>,
     count: usize,
 }
 
@@ -37,7 +37,7 @@ impl Model for Seen {
 
     ghost view = { λ s. s.count };
 
-    ghost invariant = { λ s. s.count ≤ 65536 };
+    ghost invariant = { λ s. s.count ≤ 57344 };
 }
 
 /// The mark of what was marked and a number more.
@@ -64,22 +64,26 @@ fn with_cycles(mark: u64, cycles: &[Cycle]) -> u64 {
     all
 }
 
-/// A positive number that equal cuts share. O(objects).
+/// A number that equal cuts share. O(objects).
 fn mark_of(cut: &Cut) -> u64 {
-    let mark = match cut.kind() {
+    match cut.kind() {
         CutKind::Dicycle(objects) => with_objects(1, objects),
         CutKind::Fence { u, w } => with_objects(with_objects(2, u.as_slice()), w.as_slice()),
         CutKind::Ladder(cycles) => with_cycles(3, cycles.as_slice()),
-    };
-    mark.max(1)
+    }
 }
 
-fn read(marks: &[u64], place: usize) -> u64 {
+/// What the table keeps of a mark: its lower bits, or 1 where they are 0.
+fn kept_of(mark: u64) -> u32 {
+    ((mark & 0xFFFF_FFFF) as u32).max(1)
+}
+
+fn read(marks: &[u32], place: usize) -> u32 {
     if place < marks.len() { marks[place] } else { 0 }
 }
 
 impl Seen {
-    /// No cut. It takes 1 MB.
+    /// No cut. It takes 256 kB.
     pub fn new(alloc: Global) -> Result<Self, AllocError>
         ensures { IfOk result (λ s. s ≡ 0) }
     {
@@ -105,10 +109,11 @@ impl Seen {
 
     /// The place at which a mark stands, or the free one at which it would.
     fn place_of(&self, mark: u64) -> usize {
-        let mut place = (mark >> 47) as usize;
+        let kept = kept_of(mark);
+        let mut place = (mark >> 48) as usize;
         for _step in 0..PLACES {
             let there = read(&self.marks, place);
-            if there == mark || there == 0 {
+            if there == kept || there == 0 {
                 return place;
             }
             place = place.wrapping_add(1) % PLACES;
@@ -119,7 +124,7 @@ impl Seen {
     /// Whether a cut was noted. O(objects).
     pub(crate) fn has(&self, cut: &Cut) -> bool {
         let mark = mark_of(cut);
-        read(&self.marks, self.place_of(mark)) == mark
+        read(&self.marks, self.place_of(mark)) == kept_of(mark)
     }
 
     /// Notes a cut, as long as there is room. O(objects).
@@ -130,7 +135,7 @@ impl Seen {
         let mark = mark_of(cut);
         let place = self.place_of(mark);
         if self.count < MOST_SEEN && place < self.marks.len() && self.marks[place] == 0 {
-            self.marks[place] = mark;
+            self.marks[place] = kept_of(mark);
             self.count += 1;
         }
     }

@@ -64,13 +64,26 @@ pub fn object_at(order: &Order, place: usize) -> u16 {
     }
 }
 
+/// The objects of a dicycle in turn from the least on, as separation has them, so that equal dicycles are equal cuts.
+fn least_first(a: u16, b: u16, c: u16) -> (u16, u16, u16) {
+    if b < a && b < c {
+        (b, c, a)
+    } else if c < a && c < b {
+        (c, a, b)
+    } else {
+        (a, b, c)
+    }
+}
+
 /// Adds the dicycle of the objects at three places as a row, with a multiplier at the scale of records.
 fn add_dicycle(ascent: &mut AscentRoom, order: &Order, arc: Span, third: usize, multiplier: i64)
     ensures { ascent.new.size ≡ ascent.old.size }
 {
-    let a = object_at(order, arc.from);
-    let b = object_at(order, arc.to);
-    let c = object_at(order, third);
+    let (a, b, c) = least_first(
+        object_at(order, arc.from),
+        object_at(order, arc.to),
+        object_at(order, third),
+    );
     if let Ok(cut) = Cut::dicycle(a, b, c, ascent.n()) {
         let scale = ascent.record_scale();
         let _reply = ascent.add_row(&cut, multiplier.unsigned_abs(), scale);

@@ -1,5 +1,5 @@
 // The lines from the cuts on.
-ghost use Rattle.std.specs.Prelude.{◌≡◌, ◌≤◌, ◌<◌, ◌^◌, length, map, All, OnOk};
+ghost use Rattle.std.specs.Prelude.{◌≡◌, ◌+◌, ◌≤◌, ◌<◌, ◌^◌, length, map, All, OnOk};
 ghost use Rattle.lop_model.specs.declared.weights.TheConstants.{MAX_OBJECTS};
 ghost use Rattle.lop_core.specs.Tree.{AreLinked};
 ghost use Rattle.lop_desk.specs.Desk.{IsMaking};
@@ -10,6 +10,7 @@ ghost use Rattle.lop_certtext.specs.CutLine.{cut_line, IsShapedCut};
 ghost use Rattle.lop_certwrite.specs.CoreTree.{WholeTree};
 ghost use Rattle.lop_certwrite.specs.Names.{IsNaming};
 ghost use Rattle.lop_certwrite.specs.Walk.{body_lines, user_line, user_lines};
+ghost use Rattle.lop_core.specs.declared.search.TheConstants.{MAX_BUDGET};
 
 use crate::cut::fill_cut;
 use crate::line::{Numbers, write_line, write_short_line};
@@ -71,7 +72,7 @@ fn write_users<D: Desk>(
 ) -> Result<(), DeskFailed>
     requires making { IsMaking (D.told desk.old) }
     requires inside { All (λ node. node < length core.now.state.nodes) users.now }
-    requires few { length users.now ≤ 1000001 }
+    requires few { length users.now ≤ MAX_BUDGET + 1 }
     requires few_cuts { length core.now.book.cuts ≤ 65536 }
     ensures effect { WritesAll (D.told desk.old) (D.told desk.new) (text_of (user_lines core.now.book.records users.now)) result }
     ensures cause { HasCause (D.faults desk.old) (D.faults desk.new) result }
@@ -94,7 +95,7 @@ pub fn write_body<D: Desk>(
     requires linked { AreLinked core.now.state.nodes }
     requires few_cuts { length core.now.book.cuts ≤ 65536 }
     requires for_numbers { core.now.state.evaluated < length names.now.places.items }
-    requires few { length names.now.places.items ≤ 1000001 }
+    requires few { length names.now.places.items ≤ MAX_BUDGET + 1 }
     requires naming { (whole : WholeTree core.now.state.nodes) → IsNaming core.now.book.numbers whole.tree names.now.users.items names.now.places.items }
     ensures effect { (whole : WholeTree core.now.state.nodes) → WritesAll (D.told desk.old) (D.told desk.new) (text_of (body_lines core.now.book.cuts core.now.book.records core.now.book.numbers whole.tree)) result }
     ensures shaped { OnOk result (All IsShapedCut core.now.book.cuts) }

@@ -1,9 +1,10 @@
 // The records that leaves use, and the numbers that they get in a text.
-ghost use Rattle.std.specs.Prelude.{◌≡◌, ◌<◌, ◌≤◌, ◌∷◌, ◌++◌, true, [], length, All, IfOk, vec_len, vec_capacity};
+ghost use Rattle.std.specs.Prelude.{◌≡◌, ◌+◌, ◌<◌, ◌≤◌, ◌∷◌, ◌++◌, true, [], length, All, IfOk, vec_len, vec_capacity};
 ghost use Rattle.lop_core.specs.Tree.{AreLinked};
 ghost use Rattle.lop_certwrite.specs.CoreTree.{WholeTree, is_used, place_among, users_from, with_user};
 ghost use Rattle.lop_certwrite.specs.Names.{ArePlaces, IsNaming};
 ghost use Rattle.lop_certwrite.specs.Walk.{open_in, visit_at};
+ghost use Rattle.lop_core.specs.declared.search.TheConstants.{MAX_BUDGET};
 
 use crate::walk::next_node;
 use lop_core::{Core, MAX_BUDGET, Standing};
@@ -28,13 +29,13 @@ pub struct WriteRoom {
 
 impl Model for WriteRoom {
     ghost use Rattle.lop_core.specs.declared.search.TheConstants.{MAX_BUDGET};
-    ghost use Rattle.std.specs.Prelude.{◌≤◌, ◌+◌, ℕ, length, vec_capacity, min};
+    ghost use Rattle.std.specs.Prelude.{◌≤◌, ◌+◌, ℕ, vec_capacity, min};
 
     ghost Value = { ℕ };
 
     ghost view = { λ room. room.budget };
 
-    ghost invariant = { λ room. (min room.budget MAX_BUDGET + 1 ≤ length room.names.places.items) × (length room.names.places.items ≤ MAX_BUDGET + 1) × (length room.names.places.items ≤ vec_capacity room.names.users) };
+    ghost invariant = { λ room. (min room.budget MAX_BUDGET + 1 ≤ vec_capacity room.names.places) × (min room.budget MAX_BUDGET + 1 ≤ vec_capacity room.names.users) };
 }
 
 impl WriteRoom {
@@ -44,11 +45,12 @@ impl WriteRoom {
         ensures { IfOk result (λ room. room ≡ budget) }
     {
         let count = budget.min(MAX_BUDGET) as usize + 1;
-        let places = vec![in alloc; 0; count]?;
-        let users = Vec::with_capacity(alloc, count)?;
         Ok(WriteRoom {
             budget,
-            names: Names { places, users },
+            names: Names {
+                places: Vec::with_capacity(alloc, count)?,
+                users: Vec::with_capacity(alloc, count)?,
+            },
         })
     }
 }
@@ -63,27 +65,33 @@ fn put_last(list: &mut Vec<u32>, item: u32)
 }
 
 impl Names {
-    // Forgets an earlier core. O(the number of places).
-    fn clear(&mut self)
+    // Forgets an earlier core: so many records have no place yet. O(records).
+    fn clear(&mut self, records: usize)
+        requires room { records ≤ vec_capacity self.old.places }
         ensures users { self.new.users.items ≡ [] }
         ensures places { All (λ place. place ≡ 0) self.new.places.items }
-        ensures same_length { length self.new.places.items ≡ length self.old.places.items }
+        ensures length { length self.new.places.items ≡ records }
+        ensures places_room { vec_capacity self.old.places ≤ vec_capacity self.new.places }
         ensures same_room { vec_capacity self.old.users ≤ vec_capacity self.new.users }
     {
-        self.places.fill(0);
         self.users.clear();
+        self.places.clear();
+        for _ in 0..records {
+            put_last(&mut self.places, 0);
+        }
     }
 
     // A node that isn't split uses its record.
     fn note(&mut self, core: &Core, node: u32)
         requires inside { node < length core.now.state.nodes }
         requires for_numbers { core.now.state.evaluated < length self.old.places.items }
-        requires few { length self.old.places.items ≤ 1000001 }
+        requires few { length self.old.places.items ≤ MAX_BUDGET + 1 }
         requires room { length self.old.places.items ≤ vec_capacity self.old.users }
         requires places { ArePlaces core.now.book.numbers self.old.users.items self.old.places.items }
         ensures users { self.new.users.items ≡ with_user core.now.book.numbers self.old.users.items node }
         ensures places { ArePlaces core.now.book.numbers self.new.users.items self.new.places.items }
         ensures same_length { length self.new.places.items ≡ length self.old.places.items }
+        ensures places_room { vec_capacity self.old.places ≤ vec_capacity self.new.places }
         ensures same_room { vec_capacity self.old.users ≤ vec_capacity self.new.users }
     {
         let number = core.record_of(node) as usize;
@@ -98,12 +106,13 @@ impl Names {
     fn meet(&mut self, core: &Core, node: u32)
         requires inside { node < length core.now.state.nodes }
         requires for_numbers { core.now.state.evaluated < length self.old.places.items }
-        requires few { length self.old.places.items ≤ 1000001 }
+        requires few { length self.old.places.items ≤ MAX_BUDGET + 1 }
         requires room { length self.old.places.items ≤ vec_capacity self.old.users }
         requires places { ArePlaces core.now.book.numbers self.old.users.items self.old.places.items }
         ensures users { self.new.users.items ≡ users_from core.now.book.numbers self.old.users.items (open_in (visit_at core.now.state.nodes node)) }
         ensures places { ArePlaces core.now.book.numbers self.new.users.items self.new.places.items }
         ensures same_length { length self.new.places.items ≡ length self.old.places.items }
+        ensures places_room { vec_capacity self.old.places ≤ vec_capacity self.new.places }
         ensures same_room { vec_capacity self.old.users ≤ vec_capacity self.new.users }
     {
         match core.node(node).standing {
@@ -112,18 +121,19 @@ impl Names {
         }
     }
 
-    /// Finds the records that leaves use, in the order of their first use in preorder. O(the number of nodes and places).
+    /// Finds the records that leaves use, in the order of their first use in preorder. O(the number of nodes).
     pub fn find(&mut self, core: &Core)
-        requires for_numbers { core.now.state.evaluated < length self.old.places.items }
-        requires few { length self.old.places.items ≤ 1000001 }
-        requires room { length self.old.places.items ≤ vec_capacity self.old.users }
+        requires few { core.now.state.evaluated ≤ MAX_BUDGET }
+        requires for_numbers { core.now.state.evaluated + 1 ≤ vec_capacity self.old.places }
+        requires room { core.now.state.evaluated + 1 ≤ vec_capacity self.old.users }
         requires whole { WholeTree core.now.state.nodes }
         requires linked { AreLinked core.now.state.nodes }
         ensures naming { (whole : WholeTree core.now.state.nodes) → IsNaming core.now.book.numbers whole.tree self.new.users.items self.new.places.items }
-        ensures same_length { length self.new.places.items ≡ length self.old.places.items }
+        ensures length { length self.new.places.items ≡ core.now.state.evaluated + 1 }
+        ensures places_room { vec_capacity self.old.places ≤ vec_capacity self.new.places }
         ensures same_room { vec_capacity self.old.users ≤ vec_capacity self.new.users }
     {
-        self.clear();
+        self.clear(core.evaluated() as usize + 1);
         let mut node = 0;
         for _ in 0..core.nodes() {
             self.meet(core, node);

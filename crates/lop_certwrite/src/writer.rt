@@ -1,5 +1,5 @@
 // The certificate of a search, from its core.
-ghost use Rattle.std.specs.Prelude.{◌≡◌, ◌≤◌, ◌<◌, length, OnOk};
+ghost use Rattle.std.specs.Prelude.{◌≡◌, ◌+◌, ◌≤◌, ◌<◌, length, OnOk};
 ghost use Rattle.lop_desk.specs.Desk.{IsMaking};
 ghost use Rattle.lop_desk.specs.Whole.{WritesAll};
 ghost use Rattle.lop_desk.specs.Causes.{HasCause};
@@ -8,6 +8,7 @@ ghost use Rattle.lop_certtext.specs.Certificate.{Certificate, HasText, IsTreeCer
 ghost use Rattle.lop_certtext.specs.Tree.{tree_size};
 ghost use Rattle.lop_certwrite.specs.CoreTree.{IsCertificateOf, WholeTree};
 ghost use Rattle.lop_certwrite.specs.Names.{IsNaming};
+ghost use Rattle.lop_core.specs.declared.search.TheConstants.{MAX_BUDGET};
 
 use crate::body::write_body;
 use crate::head::{write_bound_lines, write_order_lines};
@@ -25,7 +26,7 @@ fn write_lines<D: Desk>(
 ) -> Result<(), DeskFailed>
     requires making { IsMaking (D.told desk.old) }
     requires for_numbers { core.now.state.evaluated < length names.now.places.items }
-    requires few { length names.now.places.items ≤ 1000001 }
+    requires few { length names.now.places.items ≤ MAX_BUDGET + 1 }
     requires naming { (whole : WholeTree core.now.state.nodes) → IsNaming core.now.book.numbers whole.tree names.now.users.items names.now.places.items }
     ensures text { (c : Certificate) × IsCertificateOf core.now c × WritesAll (D.told desk.old) (D.told desk.new) (certificate_text Two c) result }
     ensures holds { OnOk result ((c : Certificate) → IsCertificateOf core.now c → IsTreeCertificate core.now.problem.weights c) }
@@ -45,7 +46,7 @@ fn write_lines<D: Desk>(
 /// core's bound, its cuts in order, the records that leaves use, each once, in the order of their first use in
 /// preorder, and its tree, which has at least as many nodes as were evaluated, with one call of `write_all` for each
 /// line. It takes no memory.
-/// O(the number of bytes, of nodes and of places in the room).
+/// O(the number of bytes and of nodes).
 pub fn write_certificate<D: Desk>(
     core: &Core,
     names: &Names,

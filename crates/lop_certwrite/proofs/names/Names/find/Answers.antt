@@ -6,7 +6,8 @@ use Rattle.lop_certwrite.proofs.names.Names.find.Goals as goal
 
 pub loop-init : goal.loop-init
 loop-init c = record {
-  same_length = search rules;
+  length = search rules;
+  places_room = search rules;
   same_room = search rules;
   places = subst (λ (us : List ℕ). ArePlaces c.args.core.now.book.numbers us c.clear.new.self.places.items) (sym c.clear.ensures.users) (places_start c.args.core.now.book.numbers c.clear.new.self.places.items c.clear.ensures.places);
   found = λ whole. find_starts c.args.core.now.state.nodes c.args.core.now.book.numbers c.clear.new.self.users.items whole c.clear.ensures.users;
@@ -26,7 +27,8 @@ pub loop-preserved : goal.loop-preserved
 loop-preserved c =
     let more : c.loop.counter < length c.args.core.now.state.nodes = search rules in
     record {
-      same_length = search rules;
+      length = search rules;
+      places_room = search rules;
       same_room = search rules;
       places = c.meet.ensures.places;
       found = λ whole. find_goes c.args.core.now.state.nodes c.args.core.now.book.numbers whole.tree c.loop.self.users.items c.loop.counter c.loop.node (c.loop.invariant.found whole) c.meet.new.self.users.items c.next_node-node.result more c.meet.ensures.users c.next_node-node.ensures;

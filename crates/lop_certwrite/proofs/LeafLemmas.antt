@@ -11,7 +11,7 @@ use Rattle.lop_core.specs.Records.{NodeRecord, IsNodeRecord}
 use Rattle.lop_certtext.specs.Line.{CertLine, is_row, line_text}
 use Rattle.lop_cuts.specs.declared.kind.Cycle.{Cycle}
 use Rattle.lop_certtext.specs.CutLine.{cycle_numbers, IsShapedCycle}
-use Rattle.lop_certtext.specs.RecordLine.{CutTerm, CertRecord, term_numbers, are_rising, record_line}
+use Rattle.lop_certtext.specs.RecordLine.{CutTerm, term_numbers, are_rising, record_line}
 use Rattle.lop_certtext.specs.Tree.{IsRecord}
 use Rattle.lop_certtext.proofs.AcceptedText.{IsWritten, written, record_written}
 use Rattle.lop_certwrite.specs.CoreTree.{cert_record_of}

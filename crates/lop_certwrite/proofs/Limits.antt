@@ -1,10 +1,9 @@
 -- A core's certificate has a text of version 2: its records and their terms are few enough.
-use Rattle.std.proofs.Common.{◌≡◌, ℕ, ◌+◌, ◌<◌, ◌≤◌, List, [], ◌∷◌, ◌++◌, length, length-append, map, get_or, arith, sym, ◌∙◌, ap, subst, refl}
+use Rattle.std.proofs.Common.{◌≡◌, ℕ, ◌+◌, ◌<◌, ◌≤◌, List, [], ◌∷◌, ◌++◌, length, length-append, map, get_or, arith, sym, subst, refl}
 use Rattle.std.specs.Prelude.{All, sum}
 use Rattle.std.specs.List.{flat_map}
 use Rattle.std.proofs.lemmas.List.{length-map}
 use Rattle.std.proofs.lemmas.List.Sums.{sum_by-cons}
-use Rattle.lop_core.specs.declared.records.NumberedTerm.{NumberedTerm}
 use Rattle.lop_core.specs.Records.{IsRecordBook, HaveTermsWithin, record_at, number_at, term_room}
 use Rattle.lop_core.specs.Core.{CoreFields, HasHistory, AreRecorded}
 use Rattle.lop_core.proofs.SameRecords.{number_below}
@@ -44,8 +43,7 @@ has_text core history recorded book within few c is =
     omega arith in
     let many = few_below core.book.numbers (users_in core.book.numbers is.whole.tree) (core.state.evaluated + 1) apart below in
     let size : length (records_of core (users_in core.book.numbers is.whole.tree)) ≡ length (users_in core.book.numbers is.whole.tree) = length-map (users_in core.book.numbers is.whole.tree) (λ node. cert_record_of (record_at core.book.records node)) in
-    let all = within (users_in core.book.numbers is.whole.tree) (λ k d l. let n : get_or (users_in core.book.numbers is.whole.tree) k d < length core.state.nodes = inside k d l in omega (arith, recorded.same_length)) apart in
-    (
+    let all = within (users_in core.book.numbers is.whole.tree) (λ k d l. let n : get_or (users_in core.book.numbers is.whole.tree) k d < length core.state.nodes = inside k d l in omega (arith, recorded.same_length)) apart in (
       subst (λ (rs : List CertRecord). length rs ≤ MAX_RECORDS) (sym is.records_are) (omega (arith, size, many)),
       subst (λ (rs : List CertRecord). term_count rs ≤ MAX_TOTAL_TERMS) (sym is.records_are) (omega (arith, term_count-records_of core (users_in core.book.numbers is.whole.tree), all)),
     )

@@ -25,7 +25,7 @@ use Rattle.lop_core.specs.declared.node.SearchNode.{SearchNode}
 use Rattle.lop_core.specs.declared.records.NumberedTerm.{NumberedTerm}
 use Rattle.lop_core.specs.Tree.{node_at, path_of, IsOpen, AreLinked}
 use Rattle.lop_model.specs.Reversed.{reversed}
-use Rattle.lop_core.specs.Records.{NodeRecord, IsNodeRecord, IsRecordBook, record_at, number_at, cut_at, terms_of}
+use Rattle.lop_core.specs.Records.{IsNodeRecord, IsRecordBook, record_at, number_at, cut_at, terms_of}
 use Rattle.lop_core.specs.Machine.{SearchState, state_bound}
 use Rattle.lop_core.specs.Core.{CoreFields, HasHistory, AreRecorded}
 use Rattle.lop_core.proofs.Replay.{raised-le, raised-each, sound_replay}

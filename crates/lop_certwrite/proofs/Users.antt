@@ -1,7 +1,7 @@
 -- The nodes whose records have lines, and the places of these.
-use Rattle.std.proofs.Common.{◌≡◌, ◌≢◌, ℕ, zero, suc, ◌+◌, ◌-◌, ◌<◌, ◌≤◌, ◌⊎◌, inl, inr, Bool, true, false, cond, eqb, List, [], ◌∷◌, ◌++◌, length, get_or, set, map, length-set, refl, sym, ◌∙◌, ap, subst, arith}
+use Rattle.std.proofs.Common.{◌≡◌, ◌≢◌, ℕ, ◌+◌, ◌-◌, ◌<◌, ◌≤◌, inl, inr, Bool, true, false, cond, eqb, List, [], ◌∷◌, ◌++◌, length, get_or, set, map, length-set, refl, sym, ◌∙◌, ap, subst, arith}
 use Rattle.std.specs.Prelude.{◌==◌, ◌||◌, All, AllPairs}
-use Rattle.std.specs.List.{list_any, position_or_len, flat_map}
+use Rattle.std.specs.List.{list_any, position_or_len}
 use Rattle.std.proofs.lemmas.Bool.{cases_lt, cases_eq, eqb-true, eq-eqb, ne_eqb, false≢true}
 use Rattle.std.proofs.lemmas.Bool.Decides.{Decides-eqb}
 use Rattle.std.proofs.lemmas.Grind.{get_or_default_zero}
@@ -10,7 +10,7 @@ use Rattle.std.proofs.lemmas.Map.Made.{IsDistinct-from_AllPairs}
 use Rattle.std.proofs.lemmas.List.{length-map, get_or_append_left, length_push, get_or_push, get_or-set_same, get_or-set_other, get_or_past, get_or-map}
 use Rattle.std.proofs.lemmas.List.Elements.{All-head, All-tail, All-push}
 use Rattle.std.proofs.lemmas.List.Folds.{list_any_none, list_any_at, list_any-append, Any-from_list_any}
-use Rattle.std.proofs.lemmas.List.Sums.{position_or_len_is, fails_before_first, passes_at_first}
+use Rattle.std.proofs.lemmas.List.Sums.{fails_before_first, passes_at_first}
 use Rattle.std.proofs.lemmas.List.Quantifiers.{all_pairs_push}
 use Rattle.lop_core.specs.Records.{number_at}
 use Rattle.lop_certwrite.specs.CoreTree.{is_used, with_user, users_from, place_among}
@@ -184,25 +184,25 @@ module _ (numbers : List ℕ) where
             placed = λ i lt. elim (cases_lt i (length users)) [
               | inl before ↦ ap (λ (u : ℕ). get_or (set places (number_at numbers node) (length users + 1)) (number_at numbers u) 0) (old i before) ∙ (other (number_at numbers (get_or users i 0)) (free i before) ∙ are.placed i before)
               | inr past ↦ let is : i ≡ length users = omega arith in
-                ap (λ (j : ℕ). get_or (set places (number_at numbers node) (length users + 1)) (number_at numbers (get_or (users ++ node ∷ []) j 0)) 0) is
-                ∙ (ap (λ (u : ℕ). get_or (set places (number_at numbers node) (length users + 1)) (number_at numbers u) 0) last ∙ (own ∙ ap (λ (j : ℕ). j + 1) (sym is)))
+                  ap (λ (j : ℕ). get_or (set places (number_at numbers node) (length users + 1)) (number_at numbers (get_or (users ++ node ∷ []) j 0)) 0) is
+                  ∙ (ap (λ (u : ℕ). get_or (set places (number_at numbers node) (length users + 1)) (number_at numbers u) 0) last ∙ (own ∙ ap (λ (j : ℕ). j + 1) (sym is)))
             ];
             within = λ k lt some. elim (cases_eq k (number_at numbers node)) [
               | inl is ↦ let here : get_or (set places (number_at numbers node) (length users + 1)) k 0 ≡ length users + 1 = ap (λ (j : ℕ). get_or (set places (number_at numbers node) (length users + 1)) j 0) is ∙ own in omega arith
               | inr ne ↦ let there : get_or (set places (number_at numbers node) (length users + 1)) k 0 ≡ get_or places k 0 = other k ne in
-                let w : get_or places k 0 < length users + 1 = are.within k (omega (arith, length-set places (number_at numbers node) (length users + 1))) (λ z. some (there ∙ z)) in
-                omega arith
+                  let w : get_or places k 0 < length users + 1 = are.within k (omega (arith, length-set places (number_at numbers node) (length users + 1))) (λ z. some (there ∙ z)) in
+                  omega arith
             ];
             owned = λ k lt some. elim (cases_eq k (number_at numbers node)) [
               | inl is ↦ let here : get_or (set places (number_at numbers node) (length users + 1)) k 0 ≡ length users + 1 = ap (λ (j : ℕ). get_or (set places (number_at numbers node) (length users + 1)) j 0) is ∙ own in
-                let at : get_or (set places (number_at numbers node) (length users + 1)) k 0 - 1 ≡ length users = omega arith in
-                ap (λ (j : ℕ). number_at numbers (get_or (users ++ node ∷ []) j 0)) at ∙ (ap (number_at numbers) last ∙ sym is)
+                  let at : get_or (set places (number_at numbers node) (length users + 1)) k 0 - 1 ≡ length users = omega arith in
+                  ap (λ (j : ℕ). number_at numbers (get_or (users ++ node ∷ []) j 0)) at ∙ (ap (number_at numbers) last ∙ sym is)
               | inr ne ↦ let there : get_or (set places (number_at numbers node) (length users + 1)) k 0 ≡ get_or places k 0 = other k ne in
-                let lt_k : k < length places = omega (arith, length-set places (number_at numbers node) (length users + 1)) in
-                let w : get_or places k 0 < length users + 1 = are.within k lt_k (λ z. some (there ∙ z)) in
-                let nz : 1 ≤ get_or places k 0 = positive (get_or places k 0) (λ z. some (there ∙ z)) in
-                ap (λ (j : ℕ). number_at numbers (get_or (users ++ node ∷ []) (j - 1) 0)) there
-                ∙ (ap (number_at numbers) (old (get_or places k 0 - 1) (omega arith)) ∙ are.owned k lt_k (λ z. some (there ∙ z)))
+                  let lt_k : k < length places = omega (arith, length-set places (number_at numbers node) (length users + 1)) in
+                  let w : get_or places k 0 < length users + 1 = are.within k lt_k (λ z. some (there ∙ z)) in
+                  let nz : 1 ≤ get_or places k 0 = positive (get_or places k 0) (λ z. some (there ∙ z)) in
+                  ap (λ (j : ℕ). number_at numbers (get_or (users ++ node ∷ []) (j - 1) 0)) there
+                  ∙ (ap (number_at numbers) (old (get_or places k 0 - 1) (omega arith)) ∙ are.owned k lt_k (λ z. some (there ∙ z)))
             ];
           }
         where

@@ -1,21 +1,19 @@
 -- The walk as it goes on: what was met, and what is left.
-use Rattle.std.proofs.Common.{◌≡◌, ℕ, suc, ◌+◌, ◌<◌, ◌≤◌, true, false, List, [], ◌∷◌, ◌++◌, length, length-append, map, inl, inr, arith, sym, ◌∙◌, refl, ap, subst, append_assoc, Option, Result, IsErrAnd}
+use Rattle.std.proofs.Common.{◌≡◌, ℕ, suc, ◌+◌, ◌<◌, ◌≤◌, true, false, List, [], ◌∷◌, ◌++◌, length, length-append, inl, inr, arith, sym, ◌∙◌, refl, ap, subst, append_assoc, Option, Result, IsErrAnd}
 use Rattle.std.specs.Prelude.{All}
 use Rattle.std.proofs.lemmas.List.{append-nil}
 use Rattle.std.proofs.lemmas.List.Elements.{All-nil, All-cons, All-append}
 use Rattle.std.proofs.lemmas.Grind.{flat_map-append}
 use Rattle.lop_core.specs.declared.node.SearchNode.{SearchNode}
-use Rattle.lop_core.specs.declared.node.Standing.{Standing}
-use Rattle.lop_core.specs.declared.node.Standing.TheVariants.{Idle, Out, Split}
+use Rattle.lop_core.specs.declared.node.Standing.TheVariants.{Split}
 use Rattle.lop_core.specs.Tree.{node_at, is_split}
 use Rattle.lop_desk.specs.World.{World, with_written}
 use Rattle.lop_desk.specs.Whole.{WritesFront, WritesAll}
 use Rattle.lop_desk.proofs.Worlds.{written_more}
 use Rattle.lop_certtext.specs.Line.{CertLine}
 use Rattle.lop_certtext.specs.Certificate.{text_of}
-use Rattle.lop_certwrite.specs.CoreTree.{NodeTree, one_node, two_below, node_count, WholeTree, IsTreeAt, open_nodes, is_used, with_user, users_from, users_in}
-use Rattle.lop_certwrite.specs.Names.{ArePlaces, IsNaming}
-use Rattle.lop_certwrite.specs.Walk.{at_root, Visit, IsAt, IsNext, IsWalkedTo, visit_at, visit_by, visits_of, open_in, opens_in, visit_line, visit_lines, line_bytes}
+use Rattle.lop_certwrite.specs.CoreTree.{NodeTree, one_node, two_below, node_count, WholeTree, IsTreeAt, open_nodes, is_used, users_from, users_in}
+use Rattle.lop_certwrite.specs.Walk.{at_root, Visit, IsAt, IsNext, IsWalkedTo, visit_at, visits_of, open_in, opens_in, visit_line, visit_lines, line_bytes}
 use Rattle.lop_certwrite.proofs.CutLines.{map_append}
 use Rattle.lop_certwrite.proofs.Users.{users_more, used_all}
 use Rattle.lop_certwrite.proofs.WalkLemmas.{first_visit, open_visit, tree_inside, first_inside}

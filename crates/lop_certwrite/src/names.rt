@@ -24,7 +24,7 @@ pub struct Names {
 #[derive(Drop)]
 pub struct WriteRoom {
     budget: u32,
-    pub names: Names,
+    pub(crate) names: Names,
 }
 
 impl Model for WriteRoom {

@@ -137,7 +137,8 @@ fn a_root_alone(rt: HostRuntime) -> Result<(), Fail> {
     let alloc = rt.alloc();
     let core = search(alloc, &[0, 5, 1, 2, 0, 4, 3, 1, 0])?.expect(&rt, "core");
     let desk = text_of(alloc, &core)?.expect(&rt, "desk");
-    let text = b"lopcert 2\nobjects 3\norder 1 2 3\nvalue 10\nbound 12\ncuts 0\nrecords 1\nrecord 1 0\nleaf 1\nend\n";
+    let text =
+        b"lopcert 2\nobjects 3\norder 1 2 3\nvalue 10\nbound 12\ncuts 0\nrecords 1\nrecord 1 0\nleaf 1\nend\n";
     assert_eq!(rt; desk.file("c"), Some(text.as_slice()));
     Ok(())
 }

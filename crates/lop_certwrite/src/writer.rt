@@ -49,7 +49,6 @@ fn write_lines<D: Desk>(
 /// O(the number of bytes and of nodes).
 pub fn write_certificate<D: Desk>(
     core: &Core,
-    names: &Names,
     desk: &mut D,
     room: &mut TextRoom,
     names: &mut WriteRoom,
@@ -59,6 +58,7 @@ pub fn write_certificate<D: Desk>(
     ensures text { (c : Certificate) × IsCertificateOf core.now c × WritesAll (D.told desk.old) (D.told desk.new) (certificate_text Two c) result }
     ensures has_text { (c : Certificate) → IsCertificateOf core.now c → HasText Two c }
     ensures holds { OnOk result ((c : Certificate) → IsCertificateOf core.now c → IsTreeCertificate core.now.problem.weights c) }
+    ensures evaluated { (c : Certificate) → IsCertificateOf core.now c → core.now.state.evaluated ≤ tree_size c.tree }
     ensures cause { HasCause (D.faults desk.old) (D.faults desk.new) result }
     ensures same_room { names.new ≡ names.old }
 {

@@ -1,4 +1,4 @@
-use Rattle.std.proofs.Common.{rules, ◌≡◌, [], ◌∷◌, ◌++◌, ◌<◌, ◌≤◌, length, List, ℕ, map, sym, ap, subst, arith}
+use Rattle.std.proofs.Common.{rules, ◌≡◌, [], ◌∷◌, ◌++◌, ◌<◌, length, List, ℕ, map, sym, subst, arith}
 use Rattle.std.specs.Prelude.{All}
 use Rattle.lop_desk.proofs.Worlds.{still_making}
 use Rattle.lop_certtext.specs.declared.word.CertWord.TheVariants.{End}
@@ -6,7 +6,7 @@ use Rattle.lop_certtext.specs.Line.{CertLine}
 use Rattle.lop_certtext.specs.CutLine.{cut_line}
 use Rattle.lop_certwrite.specs.CoreTree.{users_in, open_nodes}
 use Rattle.lop_certwrite.specs.Walk.{user_lines, visit_lines, visits_of}
-use Rattle.lop_certwrite.proofs.Pieces.{body_by, with_users}
+use Rattle.lop_certwrite.proofs.Pieces.{with_users}
 use Rattle.lop_certwrite.proofs.Users.{users_all, users_few}
 use Rattle.lop_certwrite.proofs.Walked.{opens_inside}
 use Rattle.lop_certwrite.proofs.Written.{lines_cut, lines_then, last_line}

@@ -1,4 +1,4 @@
-use Rattle.std.proofs.Common.{rules, ◌≡◌, ◌∙◌, ◌<◌, ◌≤◌, length, get_or, ap, List, ℤ}
+use Rattle.std.proofs.Common.{rules, ◌∙◌, ◌<◌, length, get_or, ap, List, ℤ}
 use Rattle.lop_core.specs.Records.{record_at}
 use Rattle.lop_certtext.specs.declared.word.CertWord.TheVariants.{RecordLine}
 use Rattle.lop_certwrite.specs.Walk.{user_line}

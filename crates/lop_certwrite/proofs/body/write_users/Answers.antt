@@ -1,4 +1,4 @@
-use Rattle.std.proofs.Common.{rules, ◌≡◌, ◌≤◌, length, map, pos, ℤ, to_z, w64, arith, subst}
+use Rattle.std.proofs.Common.{◌≡◌, length, map, pos, to_z, w64, arith}
 use Rattle.std.proofs.lemmas.Int.{to_z_pos}
 use Rattle.lop_certwrite.specs.Walk.{user_line, count_line}
 use Rattle.lop_certwrite.proofs.Written.{line_front, line_then}

@@ -1,4 +1,4 @@
-use Rattle.std.proofs.Common.{rules, ◌≡◌, ◌≢◌, ◌+◌, ◌<◌, ◌≤◌, ◌∷◌, ◌++◌, [], List, ℕ, Bool, cond, length, get_or, set, arith, sym, ◌∙◌, ap, subst, vec_capacity}
+use Rattle.std.proofs.Common.{rules, ◌≡◌, ◌≢◌, ◌+◌, ◌<◌, ◌∷◌, ◌++◌, [], List, ℕ, Bool, cond, length, get_or, set, arith, sym, ◌∙◌, ap, subst}
 use Rattle.std.proofs.lemmas.Grind.{get_or_default_zero}
 use Rattle.lop_core.specs.Records.{number_at}
 use Rattle.lop_certwrite.specs.Names.{ArePlaces}

@@ -4,7 +4,6 @@ use Rattle.std.specs.List.{list_any}
 use Rattle.std.specs.Str.{bytes_eq}
 use Rattle.lop_desk.specs.Number.{digits_value}
 use Rattle.lop_words.specs.Word.{is_name_word, is_count}
-use Rattle.lop_words.specs.declared.options.TheConstants.{DEFAULT_NODES, DEFAULT_WORKERS, MOST_NODES, MOST_WORKERS}
 
 -- of words that alternate between options and their values, the value of the option of this name
 abbrev pub value_of : List ℕ → List (List ℕ) → Option (List ℕ)
@@ -33,11 +32,11 @@ number_or other most (Some value) = if is_count most value then Some (digits_val
 
 -- the number of workers, 1 where none is given
 abbrev pub workers_of : Option (List ℕ) → Option ℕ
-workers_of value = number_or DEFAULT_WORKERS MOST_WORKERS value
+workers_of value = number_or 1 16 value
 
 -- the budget of nodes, 10,000 where none is given
 abbrev pub budget_of : Option (List ℕ) → Option ℕ
-budget_of value = number_or DEFAULT_NODES MOST_NODES value
+budget_of value = number_or 10000 1000000 value
 
 -- the certificate's name, if one is given; it isn't FILE
 abbrev pub certificate_of : List ℕ → Option (List ℕ) → Option (Option (List ℕ))

@@ -2,8 +2,10 @@
 ghost use Rattle.std.specs.Prelude.{◌≡◌, ◌<◌, ◌≤◌, length};
 ghost use Rattle.lop_ascent.specs.Places.{HasCells};
 ghost use Rattle.lop_model.specs.declared.weights.TheConstants.{MAX_OBJECTS};
+ghost use Rattle.lop_cuts.specs.declared.limits.TheConstants.{MAX_SCALE};
 
 use crate::place::Place;
+use lop_cuts::MAX_SCALE;
 use lop_fix::{Decision, Fixings};
 use lop_model::Weights;
 
@@ -98,9 +100,9 @@ impl Scale {
     #[inline]
     pub fn record_scale(self) -> u32
         ensures positive { 1 ≤ result }
-        ensures within_limit { result ≤ 65536 }
+        ensures within_limit { result ≤ MAX_SCALE }
     {
-        (1 << 61u32.saturating_sub(self.bits).min(16)).clamp(1, 65_536)
+        (1 << 61u32.saturating_sub(self.bits).min(16)).clamp(1, MAX_SCALE)
     }
 
     /// A multiplier of a record at its scale, in the unit of the objective, at most 2^42.

@@ -1,6 +1,7 @@
 ghost use Rattle.std.specs.Prelude.{◌≡◌, ◌≢◌, ◌+◌, ◌<◌, ◌≤◌, ◌^◌, [], ◌∷◌, ◌++◌, length, All, pos, ◌≤ℤ◌, IfOk};
 ghost use Rattle.lop_cuts.specs.Kind.{FitsCut};
 ghost use Rattle.lop_model.specs.declared.weights.TheConstants.{MAX_OBJECTS};
+ghost use Rattle.lop_cuts.specs.declared.limits.TheConstants.{MAX_SCALE};
 
 use crate::hints::{
     has_cut, least_kept, no_hints, push_cut, push_row, raise_equal, remove_idle, set_hint,
@@ -254,7 +255,7 @@ impl AscentRoom {
     /// The scale for a record of the hints.
     pub fn record_scale(&self) -> u32
         ensures positive { 1 ≤ result }
-        ensures within_limit { result ≤ 65536 }
+        ensures within_limit { result ≤ MAX_SCALE }
     {
         self.scale.record_scale()
     }

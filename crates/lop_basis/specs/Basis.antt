@@ -1,7 +1,9 @@
 use Rattle.std.specs.Prelude.{◌≡◌, ℕ, ◌+◌, ◌-◌, ◌*◌, ◌≤◌, ◌^◌, min, Bool, List, length, ℤ}
+use Rattle.lop_basis.specs.declared.room.TheConstants.{MAX_ROWS}
 use Rattle.lop_basis.specs.Table.{cell}
 
--- a basis room, as contracts see it: for how many rows it was made, how many it has, its entries row by row, whether no pivot has overflowed since the last reset, and how many calls were done and refused
+-- a basis room, as contracts see it: for how many rows it was made, how many it has, its entries row by row, whether no
+-- pivot has overflowed since the last reset, and how many calls were done and refused
 pub record Basis : Type 0 where
   pub room : ℕ
   pub rows : ℕ
@@ -22,5 +24,5 @@ one_more count = min (count + 1) (2 ^ 64 - 1)
 pub record IsShaped (b : Basis) : Type 0 where
   pub positive : 1 ≤ b.rows
   pub within : b.rows ≤ b.room
-  pub limit : b.room ≤ 1024
+  pub limit : b.room ≤ MAX_ROWS
   pub square : length b.entries ≡ b.rows * b.rows

@@ -1,6 +1,7 @@
 // A table of n rows of n entries that lie one after another.
 ghost use Rattle.std.specs.Prelude.{◌≡◌, ◌≢◌, ℕ, ◌*◌, ◌<◌, ◌≤◌, length, take, pos, IfSome, IfNone};
 ghost use Rattle.lop_basis.specs.Table.{at, IsIdentity};
+ghost use Rattle.lop_basis.specs.declared.room.TheConstants.{MAX_ROWS};
 ghost use Rattle.lop_basis.specs.Cells.{difference, ChangesRow, IsFirstInRow, ChangesOthersBelow, IsFirstInOthers, HasAllNew};
 ghost use Rattle.lop_basis.specs.Pivot.{new_of_pivot_row, new_cell, IsFirstToLeave};
 
@@ -18,7 +19,7 @@ fn clear_cells(cells: &mut [i64])
 /// Writes 1 on the diagonal and 0 elsewhere. O(n²).
 fn write_identity(cells: &mut [i64], n: usize)
     requires square { length cells.old ≡ n * n }
-    requires within_limit { n ≤ 1024 }
+    requires within_limit { n ≤ MAX_ROWS }
     ensures square { length cells.new ≡ n * n }
     ensures identity { IsIdentity n cells.new }
 {
@@ -32,7 +33,7 @@ fn write_identity(cells: &mut [i64], n: usize)
 fn quotient_at(cells: &[i64], n: usize, row: usize, column: &[i64], j: usize) -> i128
     requires square { length cells.now ≡ n * n }
     requires column { length column.now ≡ n }
-    requires within_limit { n ≤ 1024 }
+    requires within_limit { n ≤ MAX_ROWS }
     requires row { row < n }
     requires in_row { j < n }
     requires nonzero { at column.now row ≢ pos 0 }
@@ -46,7 +47,7 @@ fn quotient_at(cells: &[i64], n: usize, row: usize, column: &[i64], j: usize) ->
 fn divide_row(cells: &mut [i64], n: usize, row: usize, column: &[i64]) -> Option<usize>
     requires square { length cells.old ≡ n * n }
     requires column { length column.now ≡ n }
-    requires within_limit { n ≤ 1024 }
+    requires within_limit { n ≤ MAX_ROWS }
     requires row { row < n }
     requires nonzero { at column.now row ≢ pos 0 }
     ensures changes { IfNone result (ChangesRow n row (new_of_pivot_row cells.old n row column.now) cells.old cells.new) }
@@ -72,7 +73,7 @@ fn difference_at(
 ) -> i128
     requires square { length cells.now ≡ n * n }
     requires column { length column.now ≡ n }
-    requires within_limit { n ≤ 1024 }
+    requires within_limit { n ≤ MAX_ROWS }
     requires pivot_row { pivot_row < n }
     requires row { row < n }
     requires in_row { j < n }
@@ -93,7 +94,7 @@ fn subtract_row(
 ) -> Option<usize>
     requires square { length cells.old ≡ n * n }
     requires column { length column.now ≡ n }
-    requires within_limit { n ≤ 1024 }
+    requires within_limit { n ≤ MAX_ROWS }
     requires pivot_row { pivot_row < n }
     requires row { row < n }
     requires differ { row ≢ pivot_row }
@@ -119,7 +120,7 @@ fn subtract_rows(
 ) -> Option<(usize, usize)>
     requires square { length cells.old ≡ n * n }
     requires column { length column.now ≡ n }
-    requires within_limit { n ≤ 1024 }
+    requires within_limit { n ≤ MAX_ROWS }
     requires pivot_row { pivot_row < n }
     ensures changes { IfNone result (ChangesOthersBelow n pivot_row n (difference cells.old n pivot_row column.now) cells.old cells.new) }
     ensures overflow { IfSome result (λ place. IsFirstInOthers n pivot_row (difference cells.old n pivot_row column.now) place.0 place.1) }
@@ -138,7 +139,7 @@ fn subtract_rows(
 fn pivot_cells(cells: &mut [i64], n: usize, row: usize, column: &[i64]) -> Option<(usize, usize)>
     requires square { length cells.old ≡ n * n }
     requires column { length column.now ≡ n }
-    requires within_limit { n ≤ 1024 }
+    requires within_limit { n ≤ MAX_ROWS }
     requires row { row < n }
     requires nonzero { at column.now row ≢ pos 0 }
     ensures square { length cells.new ≡ n * n }
@@ -154,7 +155,7 @@ fn pivot_cells(cells: &mut [i64], n: usize, row: usize, column: &[i64]) -> Optio
 /// Writes the identity of n rows at the front of a room. O(n²).
 pub fn write_identity_in(room: &mut [i64], n: usize)
     requires within_room { n * n ≤ length room.old }
-    requires within_limit { n ≤ 1024 }
+    requires within_limit { n ≤ MAX_ROWS }
     ensures same_length { length room.new ≡ length room.old }
     ensures identity { IsIdentity n (take (n * n) room.new) }
 {
@@ -165,7 +166,7 @@ pub fn write_identity_in(room: &mut [i64], n: usize)
 pub fn pivot_in(room: &mut [i64], n: usize, row: usize, column: &[i64]) -> Option<(usize, usize)>
     requires within_room { n * n ≤ length room.old }
     requires column { length column.now ≡ n }
-    requires within_limit { n ≤ 1024 }
+    requires within_limit { n ≤ MAX_ROWS }
     requires row { row < n }
     requires nonzero { at column.now row ≢ pos 0 }
     ensures same_length { length room.new ≡ length room.old }

@@ -9,4 +9,4 @@ mod room;
 mod sums;
 
 pub use answer::{Pivot, Solved};
-pub use room::BasisRoom;
+pub use room::{BasisRoom, MAX_ROWS};

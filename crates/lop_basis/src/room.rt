@@ -1,5 +1,6 @@
 ghost use Rattle.std.specs.Prelude.{◌≡◌, ◌<◌, ◌≤◌, length, false, true, IsTrue, IfOk};
 ghost use Rattle.lop_basis.specs.Table.{IsIdentity};
+ghost use Rattle.lop_basis.specs.declared.room.TheConstants.{MAX_ROWS};
 ghost use Rattle.lop_basis.specs.Solve.{row_sum, column_sum, IsSolved, refused_after};
 
 use crate::cells::{pivot_in, write_identity_in};
@@ -7,6 +8,9 @@ use crate::sums::{write_column_sums, write_row_sums};
 use crate::{Pivot, Solved};
 use std::alloc::{AllocError, Global};
 use std::marker::Model;
+
+/// The most rows that a basis has.
+pub const MAX_ROWS: usize = 1024;
 
 /// The inverse of a simplex basis, in a room that is made once: a square matrix of entries of 64 bits in units of
 /// 2^-32. It counts the pivots that were done, and the pivots and solves that were refused. A contract sees the
@@ -25,12 +29,13 @@ impl Model for BasisRoom {
     ghost use Rattle.std.specs.Prelude.{◌≡◌, ◌*◌, ◌≤◌, take};
     ghost use Rattle.std.specs.Vec.{vec_len};
     ghost use Rattle.lop_basis.specs.Basis.{Basis};
+    ghost use Rattle.lop_basis.specs.declared.room.TheConstants.{MAX_ROWS};
 
     ghost Value = { Basis };
 
     ghost view = { λ b. record { room = b.room; rows = b.rows; entries = take (b.rows * b.rows) b.cells.items; usable = b.usable; done = b.done; refused = b.refused } };
 
-    ghost invariant = { λ b. (1 ≤ b.rows) × (b.rows ≤ b.room) × (b.room ≤ 1024) × (vec_len b.cells ≡ b.room * b.room) };
+    ghost invariant = { λ b. (1 ≤ b.rows) × (b.rows ≤ b.room) × (b.room ≤ MAX_ROWS) × (vec_len b.cells ≡ b.room * b.room) };
 }
 
 /// The count of refusals after a solve.
@@ -50,7 +55,7 @@ impl BasisRoom {
     /// Takes rows² numbers of 8 bytes. It is the identity of that size, with both counts at 0.
     pub fn new(alloc: Global, rows: u16) -> Result<Self, AllocError>
         requires positive { 1 ≤ rows }
-        requires within_limit { rows ≤ 1024 }
+        requires within_limit { rows ≤ MAX_ROWS }
         ensures room { IfOk result (λ b. (b.room ≡ rows) × (b.rows ≡ rows)) }
         ensures identity { IfOk result (λ b. IsIdentity rows b.entries) }
         ensures usable { IfOk result (λ b. IsTrue b.usable) }

@@ -1,6 +1,7 @@
 // Sums of products along the columns and the rows of a table, each product cut toward zero before it is added.
 ghost use Rattle.std.specs.Prelude.{◌≡◌, ◌*◌, ◌<◌, ◌≤◌, ◌^◌, length, pos, neg_ℤ, ◌≤ℤ◌};
 ghost use Rattle.lop_basis.specs.Solve.{row_sum, column_sum, IsSolved};
+ghost use Rattle.lop_basis.specs.declared.room.TheConstants.{MAX_ROWS};
 
 use crate::Solved;
 use crate::fixed::{narrowed, product_of};
@@ -9,7 +10,7 @@ use crate::fixed::{narrowed, product_of};
 fn row_sum_at(cells: &[i64], n: usize, costs: &[i64], j: usize) -> i128
     requires square { length cells.now ≡ n * n }
     requires costs { length costs.now ≡ n }
-    requires within_limit { n ≤ 1024 }
+    requires within_limit { n ≤ MAX_ROWS }
     requires column { j < n }
     ensures { result ≡ row_sum cells.now n costs.now j }
 {
@@ -24,7 +25,7 @@ fn row_sum_at(cells: &[i64], n: usize, costs: &[i64], j: usize) -> i128
 fn column_sum_at(cells: &[i64], n: usize, column: &[i64], i: usize) -> i128
     requires square { length cells.now ≡ n * n }
     requires column { length column.now ≡ n }
-    requires within_limit { n ≤ 1024 }
+    requires within_limit { n ≤ MAX_ROWS }
     requires row { i < n }
     ensures { result ≡ column_sum cells.now n column.now i }
 {
@@ -40,7 +41,7 @@ pub fn write_row_sums(cells: &[i64], n: usize, costs: &[i64], out: &mut [i64]) -
     requires square { length cells.now ≡ n * n }
     requires costs { length costs.now ≡ n }
     requires out { length out.old ≡ n }
-    requires within_limit { n ≤ 1024 }
+    requires within_limit { n ≤ MAX_ROWS }
     ensures { IsSolved n (row_sum cells.now n costs.now) out.old result out.new }
 {
     for j in 0..n {
@@ -57,7 +58,7 @@ pub fn write_column_sums(cells: &[i64], n: usize, column: &[i64], out: &mut [i64
     requires square { length cells.now ≡ n * n }
     requires column { length column.now ≡ n }
     requires out { length out.old ≡ n }
-    requires within_limit { n ≤ 1024 }
+    requires within_limit { n ≤ MAX_ROWS }
     ensures { IsSolved n (column_sum cells.now n column.now) out.old result out.new }
 {
     for i in 0..n {

@@ -12,7 +12,8 @@ use Rattle.lop_certtext.specs.declared.word.CertWord.TheVariants.{SplitLine, Rec
 use Rattle.lop_certtext.specs.Line.{CertLine, is_count, are_counts, line_text}
 use Rattle.lop_certtext.specs.Reading.{number_word}
 use Rattle.lop_certtext.specs.CutLine.{numbers_of_objects, name_objects}
-use Rattle.lop_certtext.specs.declared.limits.TheConstants.{MAX_CUTS, MAX_SCALE, MAX_TERMS}
+use Rattle.lop_cuts.specs.declared.limits.TheConstants.{MAX_SCALE, MAX_TERMS}
+use Rattle.lop_certtext.specs.declared.limits.TheConstants.{MAX_CUTS}
 use Rattle.lop_certtext.specs.declared.version.CertVersion.{CertVersion}
 use Rattle.lop_certtext.specs.declared.version.CertVersion.TheVariants.{One, Two}
 use Rattle.lop_certtext.specs.RecordLine.{CutTerm, CertRecord, numbered_record, term_numbers, record_numbers, leaf_numbers, terms_of, are_rising, is_record_row, record_of, named_of, leaf_of}

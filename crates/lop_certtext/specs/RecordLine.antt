@@ -4,7 +4,8 @@ use Rattle.std.specs.List.{flat_map}
 use Rattle.lop_cuts.specs.declared.kind.CutKind.{CutKind}
 use Rattle.lop_cuts.specs.declared.kind.CutKind.TheVariants as kind
 use Rattle.lop_cuts.specs.Lagrangian.{Term}
-use Rattle.lop_certtext.specs.declared.limits.TheConstants.{MAX_SCALE, MAX_TERMS, MAX_TOTAL_TERMS}
+use Rattle.lop_cuts.specs.declared.limits.TheConstants.{MAX_SCALE, MAX_TERMS}
+use Rattle.lop_certtext.specs.declared.limits.TheConstants.{MAX_TOTAL_TERMS}
 use Rattle.lop_certtext.specs.declared.version.CertVersion.{CertVersion}
 use Rattle.lop_certtext.specs.declared.version.CertVersion.TheVariants.{One, Two}
 use Rattle.lop_certtext.specs.declared.word.CertWord.TheVariants.{RecordLine, Leaf}

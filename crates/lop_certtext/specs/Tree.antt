@@ -6,7 +6,7 @@ use Rattle.lop_model.specs.Reversed.{reversed}
 use Rattle.lop_model.specs.Fixings.{IsUndecided}
 use Rattle.lop_cuts.specs.declared.kind.CutKind.{CutKind}
 use Rattle.lop_cuts.specs.Certifying.{CertifiesUnder}
-use Rattle.lop_certtext.specs.declared.limits.TheConstants.{MAX_SCALE, MAX_TERMS}
+use Rattle.lop_cuts.specs.declared.limits.TheConstants.{MAX_SCALE, MAX_TERMS}
 use Rattle.lop_certtext.specs.declared.word.CertWord.TheVariants.{SplitLine}
 use Rattle.lop_certtext.specs.Line.{CertLine}
 use Rattle.lop_certtext.specs.CutLine.{numbers_of_objects}

@@ -13,7 +13,7 @@ mod version;
 mod word;
 mod write;
 
-pub use limits::{MAX_CUTS, MAX_RECORDS, MAX_SCALE, MAX_TERMS, MAX_TOTAL_TERMS};
+pub use limits::{MAX_CUTS, MAX_RECORDS, MAX_TOTAL_TERMS};
 pub use read::{Spelling, read_line};
 pub use reason::Reason;
 pub use room::{NUMBER_ROOM, NumberRoom};

@@ -1,40 +1,23 @@
 -- Pieces that are written one after another, and where that may be cut off.
-use Rattle.std.proofs.Common.{◌≡◌, List, ℕ, ◌+◌, ◌++◌, length, take, drop, append_assoc, Option, Result, Ok, Err, IsErrAnd, sym, ◌∙◌, ap, subst, [], ◌∷◌}
-use Rattle.std.proofs.lemmas.List.{take-append-drop, append-nil}
+use Rattle.std.proofs.Common.{◌≡◌, List, ℕ, ◌+◌, ◌++◌, Option, Result, IsErrAnd, sym, subst, [], ◌∷◌}
+use Rattle.std.proofs.lemmas.List.{append-nil}
 use Rattle.std.proofs.lemmas.Grind.{flat_map-append}
 use Rattle.std.specs.Prelude.{codes}
-use Rattle.std.proofs.Math.Seq.{take-append-add, take-append_seam}
 use Rattle.lop_desk.specs.World.{World, with_written}
 use Rattle.lop_desk.specs.Whole.{WritesFront, WritesAll}
 use Rattle.lop_desk.proofs.Worlds.{written_more}
+use Rattle.lop_desk.proofs.Pieces.{piece_cut, piece_then}
 use Rattle.lop_certtext.specs.Line.{CertLine, line_text}
 use Rattle.lop_certtext.specs.Certificate.{text_of}
 use Rattle.lop_certwrite.specs.Walk.{line_bytes}
 
--- the front of a piece is the front of a longer text
-front_of_more : (old new : Option World) (first rest : List ℕ) → WritesFront old new first → WritesFront old new (first ++ rest)
-front_of_more old new first rest (n, is) = (length (take n first), is ∙ ap (λ (l : List ℕ). with_written l old) (sym same))
-  where
-    same : take (length (take n first)) (first ++ rest) ≡ take n first
-    same =
-        ap (λ (l : List ℕ). take (length (take n first)) (l ++ rest)) (sym (take-append-drop n first))
-        ∙ ap (λ (l : List ℕ). take (length (take n first)) l) (append_assoc (take n first) (drop n first) rest)
-        ∙ take-append_seam (take n first) (drop n first ++ rest)
-
--- a piece, and then some of the next
-front_after : (old mid new : Option World) (first rest : List ℕ) → mid ≡ with_written first old → WritesFront mid new rest → WritesFront old new (first ++ rest)
-front_after old mid new first rest done (n, is) =
-    (length first + n, is ∙ ap (λ (t : Option World). with_written (take n rest) t) done ∙ written_more first (take n rest) old ∙ ap (λ (l : List ℕ). with_written l old) (sym (take-append-add first rest n)))
-
 -- a call that failed in the first piece
 pub writes_cut : {E : Type 0} (old new : Option World) (first rest : List ℕ) (result : Result (Unit {0}) E) (Q : E → Type 0) → IsErrAnd result Q → WritesFront old new first → WritesAll old new (first ++ rest) result
-writes_cut old new first rest (Ok x) Q failed front = absurd failed
-writes_cut old new first rest (Err e) Q failed front = front_of_more old new first rest front
+writes_cut = piece_cut with_written written_more
 
 -- a first piece, and then a call on the rest
 pub writes_then : {E : Type 0} (old mid new : Option World) (first rest : List ℕ) (result : Result (Unit {0}) E) → mid ≡ with_written first old → WritesAll mid new rest result → WritesAll old new (first ++ rest) result
-writes_then old mid new first rest (Ok x) done next = next ∙ ap (λ (t : Option World). with_written rest t) done ∙ written_more first rest old
-writes_then old mid new first rest (Err e) done next = front_after old mid new first rest done next
+writes_then = piece_then with_written written_more
 
 -- the bytes of lines after others
 pub text_more : (a b : List CertLine) → text_of (a ++ b) ≡ text_of a ++ text_of b

@@ -55,8 +55,10 @@ visit_lines numbers users visits = map (visit_line numbers users) visits
 -- the subtrees that come after that of a node: those of the second children whose first child is on the way up
 pub data IsPending (nodes : List SearchNode) : ℕ → List NodeTree → Type 0 where
   at_root : (node : ℕ) → node ≡ 0 → IsPending nodes node []
-  at_first : (parent first : ℕ) (pair : Pair) (second : NodeTree) (rest : List NodeTree) → IsSplitInto nodes parent first pair → IsTreeAt nodes (first + 1) second → IsPending nodes parent rest → IsPending nodes first (second ∷ rest)
-  at_second : (parent first : ℕ) (pair : Pair) (node : ℕ) (rest : List NodeTree) → IsSplitInto nodes parent first pair → node ≡ first + 1 → IsPending nodes parent rest → IsPending nodes node rest
+  at_first : (parent first : ℕ) (pair : Pair) (second : NodeTree) (rest : List NodeTree)
+      → IsSplitInto nodes parent first pair → IsTreeAt nodes (first + 1) second → IsPending nodes parent rest → IsPending nodes first (second ∷ rest)
+  at_second : (parent first : ℕ) (pair : Pair) (node : ℕ) (rest : List NodeTree)
+      → IsSplitInto nodes parent first pair → node ≡ first + 1 → IsPending nodes parent rest → IsPending nodes node rest
 
 -- the walk stands at a node, and these visits are left: those of its subtree and of the subtrees after it
 pub record IsAt (nodes : List SearchNode) (node : ℕ) (visits : List Visit) : Type 0 where
@@ -123,4 +125,6 @@ user_lines records users = count_line (length users) ∷ map (user_line records)
 -- the cuts, the records, the tree and the end
 abbrev pub body_lines : List CutKind → List NodeRecord → List ℕ → NodeTree → List CertLine
 body_lines cuts records numbers tree =
-    map cut_line cuts ++ (user_lines records (users_in numbers tree) ++ (visit_lines numbers (users_in numbers tree) (visits_of tree) ++ record { word = End; numbers = [] } ∷ []))
+    map cut_line cuts
+    ++ (user_lines records (users_in numbers tree)
+    ++ (visit_lines numbers (users_in numbers tree) (visits_of tree) ++ record { word = End; numbers = [] } ∷ []))

@@ -2,6 +2,7 @@
 ghost use Rattle.std.specs.Prelude.{◌≡◌, ◌+◌, ◌≤◌, ◌<◌, ◌^◌, length, map, All, OnOk};
 ghost use Rattle.lop_model.specs.declared.weights.TheConstants.{MAX_OBJECTS};
 ghost use Rattle.lop_core.specs.Tree.{AreLinked};
+ghost use Rattle.lop_core.specs.Records.{cut_room};
 ghost use Rattle.lop_desk.specs.Desk.{IsMaking};
 ghost use Rattle.lop_desk.specs.Whole.{WritesAll};
 ghost use Rattle.lop_desk.specs.Causes.{HasCause};
@@ -51,7 +52,7 @@ fn write_records<D: Desk>(
 ) -> Result<(), DeskFailed>
     requires making { IsMaking (D.told desk.old) }
     requires inside { All (λ node. node < length core.now.state.nodes) users.now }
-    requires few_cuts { length core.now.book.cuts ≤ 65536 }
+    requires few_cuts { length core.now.book.cuts ≤ cut_room }
     ensures effect { WritesAll (D.told desk.old) (D.told desk.new) (text_of (map (user_line core.now.book.records) users.now)) result }
     ensures cause { HasCause (D.faults desk.old) (D.faults desk.new) result }
 {
@@ -73,7 +74,7 @@ fn write_users<D: Desk>(
     requires making { IsMaking (D.told desk.old) }
     requires inside { All (λ node. node < length core.now.state.nodes) users.now }
     requires few { length users.now ≤ MAX_BUDGET + 1 }
-    requires few_cuts { length core.now.book.cuts ≤ 65536 }
+    requires few_cuts { length core.now.book.cuts ≤ cut_room }
     ensures effect { WritesAll (D.told desk.old) (D.told desk.new) (text_of (user_lines core.now.book.records users.now)) result }
     ensures cause { HasCause (D.faults desk.old) (D.faults desk.new) result }
 {
@@ -93,7 +94,7 @@ pub fn write_body<D: Desk>(
     requires few_objects { core.now.problem.weights.size ≤ MAX_OBJECTS }
     requires whole { WholeTree core.now.state.nodes }
     requires linked { AreLinked core.now.state.nodes }
-    requires few_cuts { length core.now.book.cuts ≤ 65536 }
+    requires few_cuts { length core.now.book.cuts ≤ cut_room }
     requires for_numbers { core.now.state.evaluated < length names.now.places.items }
     requires few { length names.now.places.items ≤ MAX_BUDGET + 1 }
     requires naming { (whole : WholeTree core.now.state.nodes) → IsNaming core.now.book.numbers whole.tree names.now.users.items names.now.places.items }

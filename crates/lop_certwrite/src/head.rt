@@ -5,6 +5,7 @@ ghost use Rattle.lop_desk.specs.Desk.{IsMaking};
 ghost use Rattle.lop_desk.specs.Whole.{WritesAll};
 ghost use Rattle.lop_desk.specs.Causes.{HasCause};
 ghost use Rattle.lop_certtext.specs.Certificate.{text_of};
+ghost use Rattle.lop_core.specs.Records.{cut_room};
 ghost use Rattle.lop_certwrite.specs.Walk.{bound_lines, order_lines};
 
 use crate::line::{Numbers, fill_order, write_short_line};
@@ -43,7 +44,7 @@ pub fn write_bound_lines<D: Desk>(
 ) -> Result<(), DeskFailed>
     requires making { IsMaking (D.told desk.old) }
     requires bound { nat_abs bound < 2 ^ 63 }
-    requires cuts { cuts ≤ 65536 }
+    requires cuts { cuts ≤ cut_room }
     ensures effect { WritesAll (D.told desk.old) (D.told desk.new) (text_of (bound_lines bound cuts)) result }
     ensures cause { HasCause (D.faults desk.old) (D.faults desk.new) result }
 {

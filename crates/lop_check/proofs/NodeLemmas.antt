@@ -3,7 +3,7 @@ use Rattle.std.proofs.Common.{◌≡◌, ℕ, suc, ◌+◌, ◌*◌, ◌<◌, �
 use Rattle.std.specs.Prelude.{int_lt, nat_lt, nat_le}
 use Rattle.std.proofs.lemmas.Int.{ints}
 use Rattle.std.proofs.lemmas.Bool.{and_parts, eqb-true, leb-true}
-use Rattle.lop_certtext.specs.declared.limits.TheConstants.{MAX_SCALE, MAX_TERMS}
+use Rattle.lop_cuts.specs.declared.limits.TheConstants.{MAX_SCALE, MAX_TERMS}
 use Rattle.std.proofs.lemmas.List.{drop_all}
 use Rattle.lop_certtext.specs.RecordLine.{CertRecord, are_rising, terms_of, is_record_row, record_of}
 use Rattle.lop_check.specs.Records.{IsRow, follows}

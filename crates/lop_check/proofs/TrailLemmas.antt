@@ -1,9 +1,9 @@
 -- A trail that goes one pair down, and back.
-use Rattle.std.proofs.Common.{◌≡◌, ◌↔◌, ℕ, ◌+◌, ◌-◌, ◌*◌, ◌/◌, ◌<◌, ◌≤◌, Bool, true, false, not, cond, eqb, ltb, ◌&&◌, ◌||◌, List, [], ◌∷◌, ◌++◌, append-nil, length, take, drop, get_or, inl, inr, refl, sym, ◌∙◌, ap, subst, arith}
+use Rattle.std.proofs.Common.{◌≡◌, ◌↔◌, ℕ, ◌+◌, ◌-◌, ◌*◌, ◌/◌, ◌<◌, ◌≤◌, Bool, true, false, not, cond, eqb, ltb, ◌&&◌, ◌||◌, List, [], ◌∷◌, ◌++◌, length, take, drop, get_or, inl, inr, refl, sym, ◌∙◌, ap, subst, arith}
 use Rattle.std.specs.Prelude.{IsTrue}
 use Rattle.std.proofs.lemmas.Bool.{cases_lt}
 use Rattle.std.proofs.lemmas.Bool.Decides.{nat_tests}
-use Rattle.std.proofs.lemmas.List.{length_push, take-append-le, take_at, take_all, drop_all, get_or_append_left, get_or_push}
+use Rattle.std.proofs.lemmas.List.{length_push, take-append-le, take_at, take_all, get_or_append_left, get_or_push}
 use Rattle.lop_model.specs.declared.pair.Pair.{Pair}
 use Rattle.lop_model.specs.Cells.{cell}
 use Rattle.lop_model.specs.Related.{pairs_of}
@@ -11,18 +11,11 @@ use Rattle.lop_model.specs.Closing.{linked, closed}
 use Rattle.lop_model.specs.Fixings.{has_pair, LeadsTo, IsClosure, IsUndecided, IsBranchingPath}
 use Rattle.lop_model.proofs.ClosureLemmas.{closed_more, no_chain}
 use Rattle.lop_model.proofs.BranchingLength.{length-branching}
-use Rattle.lop_model.proofs.CellLemmas.{place_within}
+use Rattle.lop_model.proofs.CellLemmas.{place_within, put_back}
 use Rattle.lop_model.proofs.Closings.{IsClosure-closed, chain_below-path}
 use Rattle.lop_model.proofs.RelatedPairs.{has_pair-inside, has_pair-below, related-has_pair, pairs_of-none}
 use Rattle.lop_model.proofs.RisingPairs.{pairs_of-rising}
 use Rattle.lop_check.specs.Trail.{is_fixed, is_within, is_new, is_from, IsTrail, Notes, Takes}
-
--- what a vector holds after all of it was lent
-pub put_back : (new items : List ℕ) (len : ℕ) → length new ≡ length items → len ≡ length items → take len (new ++ drop (length new) items) ≡ new
-put_back new items len e f =
-    ap (λ back. take len (new ++ back)) (drop_all (length new) items (omega arith))
-    ∙ ap (take len) (append-nil new)
-    ∙ take_all len new (omega arith)
 
 same_tests : (f g : Bool) → (IsTrue f → IsTrue g) → (IsTrue g → IsTrue f) → f ≡ g
 same_tests true g p q = sym (p refl)

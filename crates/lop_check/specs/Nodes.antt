@@ -7,7 +7,7 @@ use Rattle.lop_cuts.specs.Kind.{IsCut, FitsCut}
 use Rattle.lop_certtext.specs.declared.reason.Reason.{Reason}
 use Rattle.lop_certtext.specs.declared.word.CertWord.{CertWord}
 use Rattle.lop_certtext.specs.declared.version.CertVersion.{CertVersion}
-use Rattle.lop_certtext.specs.declared.limits.TheConstants.{MAX_SCALE}
+use Rattle.lop_cuts.specs.declared.limits.TheConstants.{MAX_SCALE}
 use Rattle.lop_certtext.specs.RecordLine.{CertRecord, leaf_of}
 use Rattle.lop_certtext.specs.Answer.{CheckAnswer, rejected, node_step, split_step, split_of, leaf_value}
 use Rattle.lop_check.specs.declared.node.Proof.{Proof}

@@ -1,6 +1,7 @@
 -- The records that leaves name, and the numbers that spell a record.
 use Rattle.std.specs.Prelude.{◌≡◌, ◌≤◌, ◌<◌, ◌+◌, ◌-◌, ◌*◌, ◌&&◌, nat_lt, nat_le, slice_index_or, ℕ, true, pos, nat_abs, Some, Bool, List, [], length, take, drop, map, All, ℤ}
-use Rattle.lop_certtext.specs.declared.limits.TheConstants.{MAX_SCALE, MAX_TERMS, MAX_TOTAL_TERMS}
+use Rattle.lop_cuts.specs.declared.limits.TheConstants.{MAX_SCALE, MAX_TERMS}
+use Rattle.lop_certtext.specs.declared.limits.TheConstants.{MAX_TOTAL_TERMS}
 use Rattle.lop_certtext.specs.RecordLine.{CertRecord, are_rising, record_of, term_count, terms_of}
 use Rattle.lop_check.specs.declared.record_list.Span.{Span}
 

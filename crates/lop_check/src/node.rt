@@ -1,6 +1,6 @@
 // A line of the tree: a split goes down, and a leaf goes on to the next subtree.
 ghost use Rattle.std.specs.Prelude.{◌≡◌, ◌≤◌, pos, ◌+ℤ◌, ◌*ℤ◌, length, IfOk, MatchOption, Some, None};
-ghost use Rattle.lop_certtext.specs.declared.limits.TheConstants.{MAX_SCALE};
+ghost use Rattle.lop_cuts.specs.declared.limits.TheConstants.{MAX_SCALE};
 ghost use Rattle.lop_certtext.specs.RecordLine.{record_of, named_of, leaf_of};
 ghost use Rattle.lop_certtext.specs.declared.word.CertWord.TheVariants as words;
 ghost use Rattle.lop_certtext.specs.Answer.{split_of};

@@ -3,7 +3,7 @@ ghost use Rattle.std.specs.Prelude.{◌≡◌, ◌≤◌, ◌<◌, ◌+◌, ◌*
 ghost use Rattle.lop_certtext.specs.RecordLine.{are_rising, terms_of, is_record_row, record_of};
 ghost use Rattle.lop_check.specs.Records.{IsRow, follows};
 
-use lop_certtext::{MAX_SCALE, MAX_TERMS};
+use lop_cuts::{MAX_SCALE, MAX_TERMS};
 
 // The scale and the numbers of the terms, where they are a record over so many cuts. O(terms).
 pub fn record_of(count: usize, numbers: &[i64]) -> Option<(u32, &[i64])>
@@ -30,7 +30,7 @@ fn is_record_row(count: usize, scale: i64, told: i64, numbers: &[i64]) -> bool
     let told = told.unsigned_abs();
     1 <= scale
         && scale <= u64::from(MAX_SCALE)
-        && told <= u64::from(MAX_TERMS)
+        && told <= MAX_TERMS as u64
         && numbers.len() as u64 == 2 * told
         && are_rising(count, numbers)
 }

@@ -1,7 +1,8 @@
 // The records that leaves name.
 ghost use Rattle.std.specs.Prelude.{◌≡◌, ◌≤◌, ◌<◌, ◌+◌, ◌*◌, ◌++◌, ◌∷◌, [], ℕ, false, length, nat_abs, nat_le, MatchOption, OnOk, OnErr};
 ghost use Rattle.lop_certtext.specs.RecordLine.{term_count, terms_of};
-ghost use Rattle.lop_certtext.specs.declared.limits.TheConstants.{MAX_TERMS, MAX_TOTAL_TERMS};
+ghost use Rattle.lop_cuts.specs.declared.limits.TheConstants.{MAX_TERMS};
+ghost use Rattle.lop_certtext.specs.declared.limits.TheConstants.{MAX_TOTAL_TERMS};
 ghost use Rattle.lop_check.specs.Records.{IsPlace, is_number, record_at};
 
 use lop_certtext::MAX_TOTAL_TERMS;

@@ -2,7 +2,7 @@
 ghost use Rattle.std.specs.Prelude.{◌≡◌, ◌≤◌, ◌<◌, ◌*◌, ◌^◌, length, pos, neg_ℤ, ◌≤ℤ◌};
 ghost use Rattle.lop_model.specs.Sums.{pair_sum};
 ghost use Rattle.lop_cuts.specs.Lagrangian.{lagrangian_value};
-ghost use Rattle.lop_certtext.specs.declared.limits.TheConstants.{MAX_SCALE};
+ghost use Rattle.lop_cuts.specs.declared.limits.TheConstants.{MAX_SCALE};
 ghost use Rattle.lop_certtext.specs.RecordLine.{terms_of, terms_in};
 ghost use Rattle.lop_check.specs.Charges.{AreSmall, table_entry};
 ghost use Rattle.lop_check.specs.Nodes.{AreRightCuts};

@@ -141,7 +141,8 @@ best_settled s node bound best (Some p) = go (int_lt best bound) where
   go true = refl
   go false = refl
 
-best_rises : (s : SearchState) (e : Entry) → s.best ≤ℤ (after s e).best
+-- an entry never lowers best
+pub best_rises : (s : SearchState) (e : Entry) → s.best ≤ℤ (after s e).best
 unfolding after
 best_rises s (Take worker node) = omega (arith, ints)
 best_rises s (Report worker node bound pair value room) =

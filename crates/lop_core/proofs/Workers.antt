@@ -135,17 +135,17 @@ out_stands_still problem journal (e ∷ more) w node h out later =
 
 -- ---- when none is out
 
-none_counted : (nodes : List SearchNode) → ((i : ℕ) (x : SearchNode) → slice_get nodes i ≡ Some x → is_out x.standing ≡ false) → out_count nodes ≡ 0
-none_counted [] each = refl
-none_counted (x ∷ nodes) each =
+pub count_none : (nodes : List SearchNode) → ((i : ℕ) (x : SearchNode) → slice_get nodes i ≡ Some x → is_out x.standing ≡ false) → out_count nodes ≡ 0
+count_none [] each = refl
+count_none (x ∷ nodes) each =
     let all : out_count (x ∷ nodes) ≡ one_if (is_out x.standing) + out_count nodes = sum_by-cons (λ (m : SearchNode). one_if (is_out m.standing)) x nodes in
     let first : one_if (is_out x.standing) ≡ 0 = ap one_if (each 0 x refl) in
-    let rest : out_count nodes ≡ 0 = none_counted nodes (λ i y e. each (suc i) y e) in
+    let rest : out_count nodes ≡ 0 = count_none nodes (λ i y e. each (suc i) y e) in
     omega (arith, all, first, rest)
 
 -- where each worker has reported each node that it took, no node is out
 pub none_out : (problem : Problem) (journal : List Entry) → IsLawfulJournal problem journal → ((w node : ℕ) → HasTake node (entries_of w journal) → HasReport node (entries_of w journal)) → out_count (replay problem journal).nodes ≡ 0
-none_out problem journal h each = none_counted (replay problem journal).nodes (λ i x there. go i x there x.standing refl) where
+none_out problem journal h each = count_none (replay problem journal).nodes (λ i x there. go i x there x.standing refl) where
   go : (i : ℕ) (x : SearchNode) → slice_get (replay problem journal).nodes i ≡ Some x → (standing : Standing) → x.standing ≡ standing → is_out x.standing ≡ false
   go i x there Idle e = ap is_out e
   go i x there (Split first) e = ap is_out e

@@ -3,7 +3,7 @@ use Rattle.std.specs.Prelude.{◌≡◌, ℕ, ◌+◌, ◌*◌, ◌<◌, ◌≤�
 use Rattle.lop_model.specs.Order.{IsOrder}
 use Rattle.lop_model.specs.Matrix.{Matrix, weight}
 use Rattle.lop_cuts.specs.Kind.{FitsCut}
-use Rattle.lop_leaf.specs.declared.leaf_record.TheConstants.{MAX_TERMS}
+use Rattle.lop_cuts.specs.declared.limits.TheConstants.{MAX_TERMS}
 use Rattle.lop_leaf.specs.Bound.{CertifiesUnder}
 use Rattle.lop_leaf.specs.Ticket.{TicketFields}
 use Rattle.lop_leaf.specs.Evaluated.{EvaluatedFields}
@@ -81,13 +81,22 @@ NothingTaken old blank new ticket = (new ≡ old) × (ticket ≡ blank)
 -- one take of the machine, whichever live idle node it hands out
 abbrev pub IsTake : CoreFields → TicketFields → ℕ → TakeReply → CoreFields → TicketFields → Type 0
 -- a live idle node is handed out, with its ticket, while the budget isn't met
-IsTake old blank worker Node new ticket = MayTake old.problem old.state ticket.node × (new ≡ with_entry old (Take worker ticket.node) old.order) × (ticket ≡ ticket_of old ticket.node)
+IsTake old blank worker Node new ticket =
+    MayTake old.problem old.state ticket.node
+    × (new ≡ with_entry old (Take worker ticket.node) old.order)
+    × (ticket ≡ ticket_of old ticket.node)
 -- no node is live
 IsTake old blank worker Done new ticket = ((node : ℕ) → ¬ (IsLive old.state.nodes old.state.best node)) × NothingTaken old blank new ticket
 -- a live idle node is there, and the budget is met
-IsTake old blank worker Spent new ticket = ((node : ℕ) × IsReady old.state.nodes old.state.best node) × (old.problem.budget ≤ old.state.evaluated + out_count old.state.nodes) × NothingTaken old blank new ticket
+IsTake old blank worker Spent new ticket =
+    ((node : ℕ) × IsReady old.state.nodes old.state.best node)
+    × (old.problem.budget ≤ old.state.evaluated + out_count old.state.nodes)
+    × NothingTaken old blank new ticket
 -- a node is live, and no live node is idle
-IsTake old blank worker AllOut new ticket = ((node : ℕ) × IsLive old.state.nodes old.state.best node) × ((node : ℕ) → ¬ (IsReady old.state.nodes old.state.best node)) × NothingTaken old blank new ticket
+IsTake old blank worker AllOut new ticket =
+    ((node : ℕ) × IsLive old.state.nodes old.state.best node)
+    × ((node : ℕ) → ¬ (IsReady old.state.nodes old.state.best node))
+    × NothingTaken old blank new ticket
 
 -- the ticket has the node's bound and path
 pub record IsTicketOf (core : CoreFields) (node : ℕ) (ticket : TicketFields) : Type 0 where
@@ -140,9 +149,16 @@ abbrev pub IsReport : CoreFields → ℕ → EvaluatedFields → ReportReply →
 -- the node isn't out to the worker
 IsReport old worker found NotYours new = (¬ (IsOutTo old.state worker found.node)) × (new ≡ old)
 -- the node is closed
-IsReport old worker found Closed new = (step : IsReported old worker found new) × (length new.state.nodes ≡ length old.state.nodes) × (new.book ≡ step.book)
+IsReport old worker found Closed new =
+    (step : IsReported old worker found new)
+    × (length new.state.nodes ≡ length old.state.nodes)
+    × (new.book ≡ step.book)
 -- the node is split, these are the numbers of its children, and they have its record
-IsReport old worker found (Split first) new = (step : IsReported old worker found new) × (first ≡ length old.state.nodes) × (length new.state.nodes ≡ length old.state.nodes + 2) × (new.book ≡ with_children step.book found.node)
+IsReport old worker found (Split first) new =
+    (step : IsReported old worker found new)
+    × (first ≡ length old.state.nodes)
+    × (length new.state.nodes ≡ length old.state.nodes + 2)
+    × (new.book ≡ with_children step.book found.node)
 
 -- what is known of a node
 abbrev pub view_of : SearchNode → NodeRecord → NodeView

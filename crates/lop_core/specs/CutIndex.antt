@@ -4,7 +4,7 @@ use Rattle.std.specs.declared.cmp.Ordering.{Ordering}
 use Rattle.std.specs.declared.cmp.Ordering.TheVariants.{Less, Greater}
 use Rattle.lop_cuts.specs.declared.kind.CutKind.{CutKind}
 use Rattle.lop_cuts.specs.contracts.kind.CutKindOrd.TheImpl.{ghosts as of_kind}
-use Rattle.lop_core.specs.Records.{cut_at}
+use Rattle.lop_core.specs.Records.{cut_at, cut_room}
 
 -- the order of cuts
 unfoldable pub cut_order : CutKind → CutKind → Ordering
@@ -37,7 +37,7 @@ pub record ArePending (cuts : List CutKind) (index fresh places : List ℕ) : Ty
 
 -- so many cuts are within the limit, and the rooms for the cuts, for the fresh ones and for their places
 pub record HavePendingRooms (count cut_places fresh_places place_places : ℕ) : Type 0 where
-  pub few : count ≤ 65536
-  pub for_cuts : 65536 ≤ cut_places
-  pub for_fresh : 65536 ≤ fresh_places
-  pub for_places : 65536 ≤ place_places
+  pub few : count ≤ cut_room
+  pub for_cuts : cut_room ≤ cut_places
+  pub for_fresh : cut_room ≤ fresh_places
+  pub for_places : cut_room ≤ place_places

@@ -1,7 +1,7 @@
 -- How the records lie in their rooms.
 use Rattle.std.specs.Prelude.{◌+◌, ◌≤◌, List, length, map, take, drop, All}
 use Rattle.std.specs.Vec.{vec_capacity}
-use Rattle.lop_leaf.specs.declared.leaf_record.TheConstants.{MAX_TERMS}
+use Rattle.lop_cuts.specs.declared.limits.TheConstants.{MAX_TERMS}
 use Rattle.lop_core.specs.declared.records.NumberedTerm.{NumberedTerm}
 use Rattle.lop_core.specs.declared.records.Span.{Span}
 use Rattle.lop_core.specs.declared.records.Records.{Records}

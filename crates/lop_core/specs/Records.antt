@@ -6,7 +6,7 @@ use Rattle.lop_cuts.specs.declared.kind.CutKind.TheVariants.{Dicycle}
 use Rattle.lop_cuts.specs.contracts.kind.CutKindPartialEq.TheImpl.{ghosts as of_kind}
 use Rattle.lop_cuts.specs.Kind.{IsCut}
 use Rattle.lop_cuts.specs.Lagrangian.{Term}
-use Rattle.lop_leaf.specs.declared.leaf_record.TheConstants.{MAX_SCALE, MAX_TERMS}
+use Rattle.lop_cuts.specs.declared.limits.TheConstants.{MAX_SCALE, MAX_TERMS}
 use Rattle.lop_leaf.specs.Record.{ScaledTerms, IsMultiplier}
 use Rattle.lop_core.specs.declared.records.NumberedTerm.{NumberedTerm}
 

@@ -1,6 +1,6 @@
 // The distinct cuts of a search, in the order of their first use, with an index for look-ups.
 ghost use Rattle.std.specs.Prelude.{◌≡◌, ℕ, ◌+◌, ◌<◌, ◌≤◌, [], ◌∷◌, ◌++◌, length, take, drop, true, IfOk, IfErr, IfSome, if◌then◌else◌, slice_index, vec_len, vec_capacity};
-ghost use Rattle.lop_core.specs.Records.{AreDifferentCuts, is_new};
+ghost use Rattle.lop_core.specs.Records.{AreDifferentCuts, cut_room, is_new};
 ghost use Rattle.lop_core.specs.CutIndex.{IsCutIndex, IsNumberOf, IsGap, ArePending, HavePendingRooms};
 
 use crate::room::put_last;
@@ -32,14 +32,14 @@ impl Model for CutIndex {
     ghost use Rattle.std.specs.Prelude.{List, ◌≤◌, length};
     ghost use Rattle.std.specs.Vec.{vec_capacity};
     ghost use Rattle.lop_cuts.specs.declared.kind.CutKind.{CutKind};
-    ghost use Rattle.lop_core.specs.Records.{AreDifferentCuts};
+    ghost use Rattle.lop_core.specs.Records.{AreDifferentCuts, cut_room};
     ghost use Rattle.lop_core.specs.CutIndex.{ArePending, HavePendingRooms};
 
     ghost Value = { List CutKind };
 
     ghost view = { λ c. c.cuts.items };
 
-    ghost invariant = { λ c. AreDifferentCuts c.cuts.items × ArePending c.cuts.items c.index.items c.fresh.items c.places.items × (65536 ≤ vec_capacity c.index) × HavePendingRooms (length c.cuts.items) (vec_capacity c.cuts) (vec_capacity c.fresh) (vec_capacity c.places) };
+    ghost invariant = { λ c. AreDifferentCuts c.cuts.items × ArePending c.cuts.items c.index.items c.fresh.items c.places.items × (cut_room ≤ vec_capacity c.index) × HavePendingRooms (length c.cuts.items) (vec_capacity c.cuts) (vec_capacity c.fresh) (vec_capacity c.places) };
 }
 
 /// The number of the cut, or else the place in the index where it belongs. O(log of the number of cuts).
@@ -148,7 +148,7 @@ fn append(cuts: &mut Vec<Cut>, known: usize, fresh: &mut Vec<u32>, cut: &Cut, pl
     requires known { known ≤ length cuts.old.items }
     requires fresh { IsCutIndex (drop known cuts.old.items) fresh.old.items }
     requires gap { IsGap (drop known cuts.old.items) fresh.old.items cut.now place }
-    requires room { length cuts.old.items < 65536 }
+    requires room { length cuts.old.items < cut_room }
     requires for_cuts { length cuts.old.items < vec_capacity cuts.old }
     requires for_fresh { length cuts.old.items < vec_capacity fresh.old }
     ensures cuts { cuts.new.items ≡ cuts.old.items ++ cut.now ∷ [] }
@@ -176,7 +176,7 @@ fn number_fresh(
 ) -> u32
     requires pending { ArePending cuts.old.items index.now fresh.old.items places.old.items }
     requires gap { IsGap (take (length index.now) cuts.old.items) index.now cut.now place }
-    requires room { is_new cuts.old.items cut.now ≡ true → length cuts.old.items < 65536 }
+    requires room { is_new cuts.old.items cut.now ≡ true → length cuts.old.items < cut_room }
     requires rooms { HavePendingRooms (length cuts.old.items) (vec_capacity cuts.old) (vec_capacity fresh.old) (vec_capacity places.old) }
     ensures cuts { cuts.new.items ≡ (if is_new cuts.old.items cut.now then cuts.old.items ++ cut.now ∷ [] else cuts.old.items) }
     ensures number { IsNumberOf cuts.new.items cut.now result }
@@ -225,7 +225,7 @@ fn move_up(index: &mut [u32], place: usize, low: usize, left: usize, number: u32
 fn merge_into(cuts: &[Cut], list: &mut [u32], known: usize, fresh: &[u32], places: &[u32])
     requires known { known + length fresh.now ≡ length list.old }
     requires pending { ArePending cuts.now (take known list.old) fresh.now places.now }
-    requires few { length cuts.now ≤ 65536 }
+    requires few { length cuts.now ≤ cut_room }
     ensures { IsCutIndex cuts.now list.new }
 {
     let _count = cuts.len();
@@ -243,10 +243,10 @@ fn merge_into(cuts: &[Cut], list: &mut [u32], known: usize, fresh: &[u32], place
 /// Merges the fresh numbers into the index. O(its length).
 fn merge(cuts: &[Cut], index: &mut Vec<u32>, fresh: &[u32], places: &[u32])
     requires pending { ArePending cuts.now index.old.items fresh.now places.now }
-    requires few { length cuts.now ≤ 65536 }
-    requires room { 65536 ≤ vec_capacity index.old }
+    requires few { length cuts.now ≤ cut_room }
+    requires room { cut_room ≤ vec_capacity index.old }
     ensures index { IsCutIndex cuts.now index.new.items }
-    ensures room { 65536 ≤ vec_capacity index.new }
+    ensures room { cut_room ≤ vec_capacity index.new }
 {
     let known = index.len();
     put_zeros(index, fresh.len());
@@ -271,7 +271,7 @@ impl CutIndex {
     pub fn len(&self) -> usize
         ensures value { result ≡ length self.now }
         ensures different { AreDifferentCuts self.now }
-        ensures within_limit { result ≤ 65536 }
+        ensures within_limit { result ≤ cut_room }
     {
         self.cuts.len()
     }
@@ -305,7 +305,7 @@ impl CutIndex {
     /// The number of the cut, which is put at the end of the list where it isn't there yet. At most O(log of the
     /// number of cuts) to find it, and O(the number of fresh cuts) to put it.
     pub fn number_of(&mut self, cut: &Cut) -> u32
-        requires { is_new self.old cut.now ≡ true → length self.old < 65536 }
+        requires { is_new self.old cut.now ≡ true → length self.old < cut_room }
         ensures cuts { self.new ≡ (if is_new self.old cut.now then self.old ++ cut.now ∷ [] else self.old) }
         ensures number { IsNumberOf self.new cut.now result }
     {

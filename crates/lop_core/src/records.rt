@@ -3,7 +3,7 @@ ghost use Rattle.std.specs.Prelude.{◌≡◌, ◌+◌, ◌*◌, ◌^◌, ◌<�
 ghost use Rattle.std.specs.List.{list_all};
 ghost use Rattle.lop_core.specs.Core.{root_book};
 ghost use Rattle.lop_core.specs.Records.{AreDifferentCuts, IsAdded, IsTakenOrKept, cut_at, cut_room, finds_room, has_term, is_new, is_own, is_same, new_cuts, record_at, same_cut, scaled_of, term_room as term_room_of, terms_of, with_children};
-ghost use Rattle.lop_leaf.specs.declared.leaf_record.TheConstants.{MAX_TERMS};
+ghost use Rattle.lop_cuts.specs.declared.limits.TheConstants.{MAX_TERMS};
 ghost use Rattle.lop_leaf.specs.Record.{IsMultiplier, IsScaledTerms};
 ghost use Rattle.lop_core.specs.CutIndex.{IsNumberOf};
 ghost use Rattle.lop_core.specs.Kept.{AreKept, book_of, record_of};
@@ -11,8 +11,8 @@ ghost use Rattle.lop_core.specs.declared.search.TheConstants.{MAX_BUDGET};
 
 use crate::cut_index::{CUT_ROOM, CutIndex};
 use crate::room::put_last;
-use lop_cuts::Cut;
-use lop_leaf::{LeafRecord, MAX_TERMS, Term};
+use lop_cuts::{Cut, MAX_TERMS};
+use lop_leaf::{LeafRecord, Term};
 use std::alloc::{AllocError, Global};
 
 /// How many terms of a node's record are looked at before a cut is searched.
@@ -96,7 +96,7 @@ fn number_ahead(cuts: &CutIndex, own: &[NumberedTerm], place: &mut usize, cut: &
 /// The number of the cut, which is put at the end of the list where it isn't there yet. The next terms of the record
 /// are looked at first.
 fn number_of(cuts: &mut CutIndex, own: &[NumberedTerm], place: &mut usize, cut: &Cut) -> u32
-    requires room { is_new cuts.old cut.now ≡ true → length cuts.old < 65536 }
+    requires room { is_new cuts.old cut.now ≡ true → length cuts.old < cut_room }
     requires listed { All (λ t. t.cut < length cuts.old) own.now }
     ensures cuts { cuts.new ≡ (if is_new cuts.old cut.now then cuts.old ++ cut.now ∷ [] else cuts.old) }
     ensures number { IsNumberOf cuts.new cut.now result }
@@ -115,14 +115,14 @@ fn number_terms(
     own: &[NumberedTerm],
     fresh: &mut Vec<NumberedTerm>,
 )
-    requires room { length cuts.old + length (new_cuts cuts.old shown.now.terms) ≤ 65536 }
+    requires room { length cuts.old + length (new_cuts cuts.old shown.now.terms) ≤ cut_room }
     requires own { All (λ t. t.cut < length cuts.old) own.now }
     requires for_terms { MAX_TERMS ≤ vec_capacity fresh.old }
     ensures cuts { cuts.new ≡ cuts.old ++ new_cuts cuts.old shown.now.terms }
     ensures terms { terms_of cuts.new fresh.new.items ≡ shown.now.terms }
     ensures listed { All (λ t. t.cut < length cuts.new) fresh.new.items }
     ensures different { AreDifferentCuts cuts.new }
-    ensures few { length cuts.new ≤ 65536 }
+    ensures few { length cuts.new ≤ cut_room }
     ensures for_terms { vec_capacity fresh.old ≤ vec_capacity fresh.new }
 {
     let mut place = 0;

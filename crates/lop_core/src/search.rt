@@ -14,7 +14,7 @@ ghost use Rattle.lop_core.specs.Journal.{HasTake, HasReport, entries_of, AreCoun
 ghost use Rattle.lop_core.specs.AllOrders.{factorial};
 ghost use Rattle.lop_core.specs.Workers.{IsInRange};
 ghost use Rattle.lop_core.specs.Core.{CoreFields, HasHistory, IsTake, OnNode, IsReport, IsSoundReport, AreRecorded, prepared, view_of};
-ghost use Rattle.lop_core.specs.Records.{HaveTermsWithin, IsNodeRecord, IsRecordBook, cut_at, number_at, record_at, scaled_of, term_room};
+ghost use Rattle.lop_core.specs.Records.{HaveTermsWithin, IsNodeRecord, IsRecordBook, cut_at, cut_room, number_at, record_at, scaled_of, term_room};
 ghost use Rattle.lop_core.specs.declared.search.TheConstants.{MAX_BUDGET};
 
 use crate::candidates::Candidates;
@@ -344,7 +344,7 @@ impl Core {
     /// The number of distinct cuts of all records.
     pub fn cuts(&self) -> u32
         ensures value { result ≡ length self.now.book.cuts }
-        ensures within_limit { result ≤ 65536 }
+        ensures within_limit { result ≤ cut_room }
         ensures recorded { AreRecorded self.now }
         ensures book { IsRecordBook self.now.book }
     {

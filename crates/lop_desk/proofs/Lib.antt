@@ -1,4 +1,5 @@
 pub mod Digits
+pub mod Pieces
 pub mod Worlds
 pub mod Files
 pub mod Printing

@@ -1,7 +1,6 @@
 -- The fixings that a table stands for.
-use Rattle.std.proofs.Common.{◌≡◌, ◌≢◌, ℕ, ◌*◌, ◌<◌, ◌≤◌, Bool, true, false, eqb, ◌&&◌, ◌||◌, List, [], ◌∷◌, ◌++◌, append-nil, length, take, drop, get_or, refl, sym, ◌∙◌, ap, subst, inl, inr, arith}
+use Rattle.std.proofs.Common.{◌≡◌, ◌≢◌, ℕ, ◌*◌, ◌<◌, ◌≤◌, Bool, true, false, eqb, ◌&&◌, ◌||◌, List, [], ◌∷◌, ◌++◌, length, get_or, refl, sym, ◌∙◌, subst, inl, inr, arith}
 use Rattle.std.specs.Prelude.{IsTrue}
-use Rattle.std.proofs.lemmas.List.{drop_all, take_all}
 use Rattle.std.proofs.lemmas.Bool.{cases_lt}
 use Rattle.std.proofs.lemmas.Bool.Decides.{nat_tests}
 use Rattle.lop_model.specs.declared.pair.Pair.{Pair}
@@ -84,13 +83,6 @@ IsUndecided-tests f a b was l m ne d e = record {
 
 pub at-fresh : (n : ℕ) (t : List ℕ) (a b : ℕ) → IsUndecided n (pairs_of n (at t n)) a b → at t n b a ≡ false
 at-fresh n t a b fresh = false_from_not (at t n b a) (λ u. fresh.not_after (one_pair (has_pair-inside n (at t n) b a fresh.second fresh.first ∙ u)))
-
--- what a vector holds after all of it was lent
-pub put_back : (new items : List ℕ) (len : ℕ) → length new ≡ length items → len ≡ length items → take len (new ++ drop (length new) items) ≡ new
-put_back new items len e f =
-    ap (λ back. take len (new ++ back)) (drop_all (length new) items (omega arith))
-    ∙ ap (take len) (append-nil new)
-    ∙ take_all len new (omega arith)
 
 -- with nothing fixed there is a partial order
 pub IsPartialOrder-none : (f : FixedPairs) → f.pairs ≡ [] → IsPartialOrder f

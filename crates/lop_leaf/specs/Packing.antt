@@ -7,7 +7,7 @@ use Rattle.lop_model.specs.Bound.{pair_bound}
 use Rattle.lop_cuts.specs.declared.kind.CutKind.{CutKind}
 use Rattle.lop_cuts.specs.declared.kind.CutKind.TheVariants.{Dicycle}
 use Rattle.lop_cuts.specs.Lagrangian.{Term, reduced_entry}
-use Rattle.lop_leaf.specs.declared.leaf_record.TheConstants.{MAX_TERMS}
+use Rattle.lop_cuts.specs.declared.limits.TheConstants.{MAX_TERMS}
 use Rattle.lop_leaf.specs.Record.{ScaledTerms}
 
 -- a number, or 0 in place of a negative one
@@ -15,7 +15,8 @@ abbrev pub positive_part : ℤ → ℕ
 positive_part (pos m) = m
 positive_part (negsuc m) = 0
 
--- what the arc from a to b can lose before its pair gives less than that: nothing where the pair is fixed the other way, anything (None) where it is fixed this way, else what the arc has more than its reverse
+-- what the arc from a to b can lose before its pair gives less than that: nothing where the pair is fixed the other way,
+-- anything (None) where it is fixed this way, else what the arc has more than its reverse
 abbrev pub residual : List Pair → (ℕ → ℕ → ℤ) → ℕ → ℕ → Option ℕ
 residual G r a b = if has_pair G b a then Some 0 else (if has_pair G a b then None else Some (positive_part (r a b -ℤ r b a)))
 

@@ -1,7 +1,7 @@
 use Rattle.std.specs.Prelude.{◌≢◌, ℕ, ◌<◌, ◌≤◌, ◌^◌, List, [], length, All, AllPairs}
 use Rattle.lop_cuts.specs.Kind.{IsCut, FitsCut}
 use Rattle.lop_cuts.specs.Lagrangian.{Term}
-use Rattle.lop_leaf.specs.declared.leaf_record.TheConstants.{MAX_SCALE, MAX_TERMS}
+use Rattle.lop_cuts.specs.declared.limits.TheConstants.{MAX_SCALE, MAX_TERMS}
 
 -- the multipliers of a leaf's cuts, as contracts see them: a scale, and the cuts with their multipliers
 pub record ScaledTerms : Type 0 where

@@ -23,7 +23,8 @@ pub record IsDecidedResult (C : Matrix) (t : TicketFields) (r : EvaluatedFields)
   pub extends : IsLinearExtension r.order t.path
   pub exact : r.value ≡ r.bound
 
--- what a judge owes for a ticket: a record whose value under the path gives the bound, which is at most the ticket's and the packing bound; an order with its weight; and a pair to branch on, or none where all are decided
+-- what a judge owes for a ticket: a record whose value under the path gives the bound, which is at most the ticket's and
+-- the packing bound; an order with its weight; and a pair to branch on, or none where all are decided
 pub record IsSoundResult (C : Matrix) (t : TicketFields) (r : EvaluatedFields) : Type 0 where
   pub node : r.node ≡ t.node
   pub cuts : HasCutsBelow C.size r.shown.terms

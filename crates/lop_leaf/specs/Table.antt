@@ -6,7 +6,7 @@ use Rattle.lop_model.specs.Fixings.{has_pair}
 use Rattle.lop_cuts.specs.declared.kind.CutKind.{CutKind}
 use Rattle.lop_cuts.specs.declared.kind.CutKind.TheVariants.{Dicycle}
 use Rattle.lop_cuts.specs.Lagrangian.{Term, reduced_entry}
-use Rattle.lop_leaf.specs.declared.leaf_record.TheConstants.{MAX_TERMS}
+use Rattle.lop_cuts.specs.declared.limits.TheConstants.{MAX_TERMS}
 use Rattle.lop_leaf.specs.Record.{ScaledTerms, FitTerms}
 use Rattle.lop_leaf.specs.Packing.{positive_part, residual, AreThree}
 

@@ -1,7 +1,7 @@
 ghost use Rattle.std.specs.Prelude.{◌≡◌, ◌≢◌, ℕ, ◌<◌, ◌≤◌, ◌^◌, length, All};
 ghost use Rattle.std.specs.List.{AllPairs};
 ghost use Rattle.lop_cuts.specs.Kind.{FitsCut};
-ghost use Rattle.lop_leaf.specs.declared.leaf_record.TheConstants.{MAX_SCALE, MAX_TERMS};
+ghost use Rattle.lop_cuts.specs.declared.limits.TheConstants.{MAX_SCALE, MAX_TERMS};
 ghost use Rattle.lop_leaf.specs.Record.{FitTerms};
 ghost use Rattle.lop_leaf.specs.Packing.{positive_part};
 ghost use Rattle.lop_leaf.specs.Hints.{rounded_multiplier, rounded_hints};

@@ -1,15 +1,9 @@
 ghost use Rattle.std.specs.Prelude.{◌≡◌, ◌≢◌, ◌<◌, ◌≤◌, ◌^◌, [], ◌∷◌, ◌++◌, length, All, slice_index_or, IfOk};
 ghost use Rattle.lop_cuts.specs.Kind.{IsCut};
 
-use lop_cuts::Cut;
+use lop_cuts::{Cut, MAX_TERMS};
 use std::alloc::{AllocError, Global};
 use std::marker::Model;
-
-/// The most terms that a record has.
-pub const MAX_TERMS: usize = 4096;
-
-/// The greatest scale of a record.
-pub const MAX_SCALE: u32 = 65536;
 
 /// A cut, and the whole number by which its inequality is multiplied.
 #[derive(Drop)]
@@ -37,7 +31,7 @@ pub struct LeafRecord {
 impl Model for LeafRecord {
     ghost use Rattle.std.specs.Prelude.{◌≤◌};
     ghost use Rattle.std.specs.Vec.{vec_capacity};
-    ghost use Rattle.lop_leaf.specs.declared.leaf_record.TheConstants.{MAX_TERMS};
+    ghost use Rattle.lop_cuts.specs.declared.limits.TheConstants.{MAX_TERMS};
     ghost use Rattle.lop_leaf.specs.Record.{ScaledTerms, IsScaledTerms};
 
     ghost Value = { ScaledTerms };

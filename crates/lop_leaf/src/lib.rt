@@ -16,6 +16,6 @@ mod ticket;
 pub use bound::{PairRoom, bound_of, upper};
 pub use evaluated::Evaluated;
 pub use hints::round_hints;
-pub use leaf_record::{LeafRecord, MAX_SCALE, MAX_TERMS, Term};
+pub use leaf_record::{LeafRecord, Term};
 pub use pack::packing;
 pub use ticket::Ticket;

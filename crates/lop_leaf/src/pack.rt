@@ -11,8 +11,8 @@ ghost use Rattle.lop_leaf.specs.Packing.{pack_cycle, pack_triple, pack_pair, pac
 ghost use Rattle.lop_leaf.specs.Table.{slack, AreBounded, HasResiduals, IsPacking, IsPassed, ArePassed, IsPassedPair, IsLater};
 
 use crate::margins::{is_even, leans_forth, least_back, least_forth, load_margins, lower_cycle};
-use crate::{LeafRecord, MAX_TERMS, PairRoom};
-use lop_cuts::Cut;
+use crate::{LeafRecord, PairRoom};
+use lop_cuts::{Cut, MAX_TERMS};
 use lop_fix::Fixings;
 use lop_model::Weights;
 

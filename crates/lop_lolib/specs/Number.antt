@@ -37,4 +37,8 @@ digits_of word = whole_value (without_point word)
 -- the number of a word with at most six decimals, whose digits give at most 10^18; or the first of these that it lacks
 abbrev pub number_word : List ℕ → NumberWord
 number_word word =
-    if is_decimal_word word then (if nat_lt MAX_DECIMALS (decimal_count word) then TooFine else (if nat_lt MAX_NUMBER (nat_abs (digits_of word)) then TooWide else Good (digits_of word) (decimal_count word))) else Not
+    if is_decimal_word word
+    then (if nat_lt MAX_DECIMALS (decimal_count word) then TooFine
+    else (if nat_lt MAX_NUMBER (nat_abs (digits_of word)) then TooWide
+    else Good (digits_of word) (decimal_count word)))
+    else Not

@@ -16,7 +16,9 @@ use Rattle.lop_lolib.specs.declared.refusal.LolibRefusal.TheVariants.{Empty, Bad
 -- n rows of n entries in units of 10^-k, whose absolute values off the diagonal sum to at most 10^18, and the number of words behind them
 abbrev pub entries_reading : ℕ → ℕ → List ℤ → ℕ → Result LolibFile LolibRefusal
 entries_reading n k entries tail =
-    if int_lt MAX_ABSOLUTE_SUM (absolute_total (matrix_of n entries)) then Err (TooHeavy (absolute_total (matrix_of n entries))) else Ok (record { weights = matrix_of n entries; title = []; tail_words = tail; decimals = k })
+    if int_lt MAX_ABSOLUTE_SUM (absolute_total (matrix_of n entries))
+    then Err (TooHeavy (absolute_total (matrix_of n entries)))
+    else Ok (record { weights = matrix_of n entries; title = []; tail_words = tail; decimals = k })
 
 -- the words are the numbers of n rows, each of which times 10^k is at most 10^18 in absolute value
 abbrev pub units_reading : ℕ → ℕ → List (List ℕ) → ℕ → Result LolibFile LolibRefusal
@@ -38,8 +40,10 @@ entry_count n words = prefix_len is_entry_word (take (n * n) words)
 -- the words behind that for n are n * n entries, row by row, and others
 abbrev pub rows_reading : ℕ → List (List ℕ) → Result LolibFile LolibRefusal
 rows_reading n words =
-    if nat_lt (entry_count n words) (length (take (n * n) words)) then Err (entry_refusal (entry_count n words) (slice_index_or words (entry_count n words) []))
-    else (if nat_lt (length words) (n * n) then Err (Short (length words)) else units_reading n (most_decimals (take (n * n) words)) (take (n * n) words) (length words - n * n))
+    if nat_lt (entry_count n words) (length (take (n * n) words))
+    then Err (entry_refusal (entry_count n words) (slice_index_or words (entry_count n words) []))
+    else (if nat_lt (length words) (n * n) then Err (Short (length words))
+    else units_reading n (most_decimals (take (n * n) words)) (take (n * n) words) (length words - n * n))
 
 -- n is from 1 to 512
 abbrev pub size_reading : ℤ → List (List ℕ) → Result LolibFile LolibRefusal

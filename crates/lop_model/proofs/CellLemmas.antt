@@ -1,9 +1,16 @@
 -- Reads and writes of tables of n rows of n values.
-use Rattle.std.proofs.Common.{◌≡◌, ℕ, ◌+◌, ◌*◌, ◌<◌, Bool, true, false, cond, eqb, ◌&&◌, List, length, get_or, set, inl, inr, refl, sym, ◌∙◌, ap, arith}
+use Rattle.std.proofs.Common.{◌≡◌, ℕ, ◌+◌, ◌*◌, ◌<◌, Bool, true, false, cond, eqb, ◌&&◌, List, ◌++◌, append-nil, length, take, drop, get_or, set, inl, inr, refl, sym, ◌∙◌, ap, arith}
 use Rattle.std.proofs.lemmas.Bool.{cases_eq}
 use Rattle.std.proofs.lemmas.Bool.Decides.{nat_tests}
-use Rattle.std.proofs.lemmas.List.{get_or-set_same, get_or-set_other}
+use Rattle.std.proofs.lemmas.List.{drop_all, take_all, get_or-set_same, get_or-set_other}
 use Rattle.std.proofs.lemmas.Nat.{mul-add-lt, same_from_place}
+
+-- what a vector holds after all of it was lent
+pub put_back : (new items : List ℕ) (len : ℕ) → length new ≡ length items → len ≡ length items → take len (new ++ drop (length new) items) ≡ new
+put_back new items len e f =
+    ap (λ back. take len (new ++ back)) (drop_all (length new) items (omega arith))
+    ∙ ap (take len) (append-nil new)
+    ∙ take_all len new (omega arith)
 
 -- a row and a column below n have a place in the table
 pub place_within : (n a b : ℕ) → a < n → b < n → a * n + b < n * n

@@ -1,10 +1,8 @@
 -- What a worker holds stays so, whatever the others do.
-use Rattle.std.proofs.Common.{◌≡◌, ◌≢◌, ℕ, ◌+◌, inl, inr, List, [], ◌∷◌, ◌++◌, get_or, arith, sym, ◌∙◌, Some, None, Option, refl, ap, subst, Bool, true, false, cond, suc}
-use Rattle.std.specs.Prelude.{slice_get, ℤ, pos, ◌≤ℤ◌, map, ◌==◌, int_lt}
-use Rattle.std.specs.Int.{int_max}
-use Rattle.std.proofs.lemmas.Int.{ints, clamps}
+use Rattle.std.proofs.Common.{◌≡◌, ◌≢◌, ℕ, ◌+◌, inl, inr, List, [], ◌∷◌, ◌++◌, get_or, arith, sym, ◌∙◌, Some, Option, refl, ap, subst, true, false}
+use Rattle.std.specs.Prelude.{slice_get, pos, ◌≤ℤ◌, map, ◌==◌}
+use Rattle.std.proofs.lemmas.Int.{ints}
 use Rattle.std.proofs.lemmas.Bool.{false≢true, eqb-true}
-use Rattle.std.proofs.lemmas.List.Sums.{sum_by-cons}
 use Rattle.lop_model.specs.declared.pair.Pair.{Pair}
 use Rattle.lop_model.specs.Matrix.{Matrix}
 use Rattle.lop_leaf.specs.Ticket.{TicketFields}
@@ -14,11 +12,11 @@ use Rattle.lop_core.specs.declared.node.SearchNode.{SearchNode}
 use Rattle.lop_core.specs.declared.node.Standing.{Standing}
 use Rattle.lop_core.specs.declared.node.Standing.TheVariants.{Idle, Out, Split}
 use Rattle.lop_core.specs.declared.journal.Entry.{Entry}
-use Rattle.lop_core.specs.declared.journal.Entry.TheVariants.{Take, Report}
+use Rattle.lop_core.specs.declared.journal.Entry.TheVariants.{Take}
 use Rattle.lop_core.specs.declared.reply.TakeReply.{TakeReply}
 use Rattle.lop_core.specs.declared.reply.TakeReply.TheVariants.{Node, Done, AllOut, Spent}
 use Rattle.lop_core.specs.Tree.{node_at, path_of, is_out, is_split, out_count}
-use Rattle.lop_core.specs.Machine.{Problem, SearchState, closed, divided, settled, after, IsOutTo}
+use Rattle.lop_core.specs.Machine.{Problem, SearchState, after, IsOutTo}
 use Rattle.lop_core.specs.Journal.{replay, entries_of, takes, reports, HasTake, HasReport, MayTake, IsLawfulJournal}
 use Rattle.lop_core.specs.Core.{CoreFields, HasHistory, IsTake, IsTicketOf, IsSoundReport, IsReported, with_entry, entry_of, has_room_for}
 use Rattle.lop_core.specs.Workers.{StandsStill}
@@ -27,7 +25,8 @@ use Rattle.lop_core.proofs.Sound.{one_if, count_changed}
 use Rattle.lop_core.proofs.Fates.{out_exactly}
 use Rattle.lop_core.proofs.CoreLemmas.{core_out, core_counted}
 use Rattle.lop_core.proofs.Alone.{ready_alone}
-use Rattle.lop_core.proofs.Workers.{lawful_start, Any_more, report_apart, out_stands_still}
+use Rattle.lop_core.proofs.Monotone.{best_rises}
+use Rattle.lop_core.proofs.Workers.{lawful_start, Any_more, count_none, report_apart, out_stands_still}
 use Rattle.lop_pool.specs.declared.event.Event.{Event}
 use Rattle.lop_pool.specs.declared.parcel.Parcel.{Parcel}
 use Rattle.lop_pool.specs.declared.end.SearchEnd.TheVariants as ends
@@ -129,14 +128,6 @@ no_out s none worker node out =
     let one : one_if (is_out out.0.standing) ≡ 1 = ap (λ (x : Standing). one_if (is_out x)) out.2 in
     absurd (omega (arith, count_changed is_out s.nodes node out.0 (pos 0) Idle out.1))
 
-count_none : (nodes : List SearchNode) → ((i : ℕ) (x : SearchNode) → slice_get nodes i ≡ Some x → is_out x.standing ≡ false) → out_count nodes ≡ 0
-count_none [] each = refl
-count_none (x ∷ nodes) each =
-    let all : out_count (x ∷ nodes) ≡ one_if (is_out x.standing) + out_count nodes = sum_by-cons (λ (m : SearchNode). one_if (is_out m.standing)) x nodes in
-    let first : one_if (is_out x.standing) ≡ 0 = ap one_if (each 0 x refl) in
-    let rest : out_count nodes ≡ 0 = count_none nodes (λ i y e. each (suc i) y e) in
-    omega (arith, all, first, rest)
-
 standing_in : (s : SearchState) (i : ℕ) (x : SearchNode) (standing : Standing) → ((worker : ℕ) → HasNone worker s) → slice_get s.nodes i ≡ Some x → x.standing ≡ standing → is_out x.standing ≡ false
 standing_in s i x Idle none there e = ap is_out e
 standing_in s i x (Split first) none there e = ap is_out e
@@ -150,19 +141,6 @@ none_counted s none = count_none s.nodes (λ i x there. standing_in s i x x.stan
 
 pub report_grown : (old new : CoreFields) (worker : ℕ) (found : EvaluatedFields) → IsReported old worker found new → IsGrown worker old.journal new.journal
 report_grown old new worker found told = grown_push worker old.journal new.journal (entry_of old worker found) (ap (λ (x : CoreFields). x.journal) told.noted) refl
-
-settled_best : (s : SearchState) (node : ℕ) (bound best : ℤ) (pair : Option Pair) → (settled s node bound best pair).best ≡ best
-settled_best s node bound best None = refl
-settled_best s node bound best (Some p) = go (int_lt best bound) where
-  go : (b : Bool) → (cond b (divided s node bound best p) (closed s node bound best)).best ≡ best
-  go true = refl
-  go false = refl
-
-best_rises : (s : SearchState) (e : Entry) → s.best ≤ℤ (after s e).best
-unfolding after
-best_rises s (Take worker node) = omega (arith, ints)
-best_rises s (Report worker node bound pair value room) =
-    subst (λ (z : ℤ). s.best ≤ℤ z) (sym (settled_best s node (cond room bound (node_at s.nodes node).bound) (int_max s.best value) pair)) (omega (arith, ints, clamps))
 
 pub report_best : (old new : CoreFields) (worker : ℕ) (found : EvaluatedFields) → IsReported old worker found new → old.state.best ≤ℤ new.state.best
 report_best old new worker found told = subst (λ (x : CoreFields). old.state.best ≤ℤ x.state.best) (sym told.noted) (best_rises old.state (entry_of old worker found))

@@ -1,4 +1,5 @@
 use Rattle.std.specs.Prelude.{◌≡◌, ◌≢◌, ℕ, ◌+◌, ◌<◌, List, [], ◌∷◌, ◌++◌, length, All, Contains, ℤ, pos}
+use Rattle.lop_basis.specs.declared.room.TheConstants.{MAX_ROWS}
 use Rattle.lop_cuts.specs.declared.kind.CutKind.{CutKind}
 use Rattle.lop_simplex.specs.declared.answer.RowReply.{RowReply}
 use Rattle.lop_simplex.specs.declared.answer.RowReply.TheVariants.{Added, Present, Full}
@@ -8,9 +9,9 @@ use Rattle.lop_simplex.specs.Lp.{Lp}
 
 -- when each reply to a cut comes
 abbrev pub IsRowReply : List CutKind → CutKind → RowReply → Type 0
-IsRowReply rows cut Added = All (λ row. row ≢ cut) rows × (length rows < 1024)
+IsRowReply rows cut Added = All (λ row. row ≢ cut) rows × (length rows < MAX_ROWS)
 IsRowReply rows cut Present = Contains rows cut
-IsRowReply rows cut Full = All (λ row. row ≢ cut) rows × (length rows ≡ 1024)
+IsRowReply rows cut Full = All (λ row. row ≢ cut) rows × (length rows ≡ MAX_ROWS)
 
 -- the program after it: one row more, with multiplier 0, or what it was
 abbrev pub after_reply : Lp → CutKind → RowReply → Lp

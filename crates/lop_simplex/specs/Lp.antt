@@ -1,4 +1,5 @@
 use Rattle.std.specs.Prelude.{◌≡◌, ◌≢◌, ℕ, ◌≤◌, List, length, All, AllPairs, ℤ, pos, ◌≤ℤ◌}
+use Rattle.lop_basis.specs.declared.room.TheConstants.{MAX_ROWS}
 use Rattle.lop_cuts.specs.declared.kind.CutKind.{CutKind}
 use Rattle.lop_cuts.specs.Kind.{FitsCut}
 use Rattle.lop_cuts.specs.Point.{PointValues}
@@ -15,7 +16,7 @@ pub record Lp : Type 0 where
 
 -- at most 1,024 rows, all different cuts of objects below n
 pub record AreRows (n : ℕ) (rows : List CutKind) : Type 0 where
-  pub at_most : length rows ≤ 1024
+  pub at_most : length rows ≤ MAX_ROWS
   pub distinct : AllPairs (λ x y. x ≢ y) rows
   pub fit : All (FitsCut n) rows
 

@@ -1,6 +1,7 @@
 -- What the steps of the simplex do to its basis.
 use Rattle.std.specs.Prelude.{◌≡◌, ℕ, ◌<◌, ◌≤◌, IsTrue}
 use Rattle.lop_basis.specs.Basis.{Basis, one_more}
+use Rattle.lop_basis.specs.declared.room.TheConstants.{MAX_ROWS}
 use Rattle.lop_simplex.specs.declared.run.Step.{Step}
 use Rattle.lop_simplex.specs.declared.run.Step.TheVariants.{Pivoted, Settled, Refused}
 
@@ -8,7 +9,7 @@ use Rattle.lop_simplex.specs.declared.run.Step.TheVariants.{Pivoted, Settled, Re
 pub record IsReady (rows : ℕ) (b : Basis) : Type 0 where
   pub usable : IsTrue b.usable
   pub size : b.rows ≡ rows
-  pub at_most : rows ≤ 1024
+  pub at_most : rows ≤ MAX_ROWS
 
 -- one more pivot is done, and the basis is ready for the next
 pub record HasMoved (rows : ℕ) (old new : Basis) : Type 0 where

@@ -9,15 +9,12 @@ use crate::run::run_in;
 use crate::shift::least_shift;
 use crate::write::{write_duals, write_point};
 use crate::{LpStop, RowReply};
-use lop_basis::BasisRoom;
+use lop_basis::{BasisRoom, MAX_ROWS};
 use lop_cuts::{Cut, Point};
 use lop_fix::Fixings;
 use lop_model::Weights;
 use std::alloc::{AllocError, Global};
 use std::marker::Model;
-
-/// The most rows that a linear program has.
-const MAX_ROWS: usize = 1024;
 
 /// A linear program over the pairs of n objects, with cuts as its rows, in a room that is made once. A contract sees
 /// the rows, their multipliers, the point and the two counts of its basis.
@@ -41,14 +38,15 @@ impl Model for LpRoom {
     ghost use Rattle.std.specs.Vec.{vec_len, vec_capacity};
     ghost use Rattle.lop_simplex.specs.Lp.{Lp, IsLp};
     ghost use Rattle.lop_model.specs.declared.weights.TheConstants.{MAX_OBJECTS};
+    ghost use Rattle.lop_basis.specs.declared.room.TheConstants.{MAX_ROWS};
 
     ghost Value = { Lp };
 
     ghost view = { λ r. record { size = r.size; shift = r.shift; rows = r.rows.items; duals = r.duals.items; point = r.point; done = r.basis.done; refused = r.basis.refused } };
 
     ghost invariant = { λ r. IsLp (record { size = r.size; shift = r.shift; rows = r.rows.items; duals = r.duals.items; point = r.point; done = r.basis.done; refused = r.basis.refused })
-        × (r.size ≤ MAX_OBJECTS) × (1024 ≤ vec_capacity r.rows) × (1024 ≤ vec_capacity r.duals) × (r.basis.room ≡ 1024)
-        × (vec_len r.table ≡ r.size * r.size) × (vec_len r.heads ≡ 1024) × (vec_len r.input ≡ 1024) × (vec_len r.output ≡ 1024) × (vec_len r.prices ≡ 1024) };
+        × (r.size ≤ MAX_OBJECTS) × (MAX_ROWS ≤ vec_capacity r.rows) × (MAX_ROWS ≤ vec_capacity r.duals) × (r.basis.room ≡ MAX_ROWS)
+        × (vec_len r.table ≡ r.size * r.size) × (vec_len r.heads ≡ MAX_ROWS) × (vec_len r.input ≡ MAX_ROWS) × (vec_len r.output ≡ MAX_ROWS) × (vec_len r.prices ≡ MAX_ROWS) };
 }
 
 impl LpRoom {
@@ -70,7 +68,7 @@ impl LpRoom {
             rows: Vec::with_capacity(alloc, MAX_ROWS)?,
             duals: Vec::with_capacity(alloc, MAX_ROWS)?,
             point: Point::new(alloc, n)?,
-            basis: BasisRoom::new(alloc, 1024)?,
+            basis: BasisRoom::new(alloc, MAX_ROWS as u16)?,
             table: vec![in alloc; Column::NONE; n as usize * n as usize]?,
             heads: vec![in alloc; Head::Slack(0); MAX_ROWS]?,
             input: vec![in alloc; 0; MAX_ROWS]?,

@@ -3,6 +3,7 @@
 ghost use Rattle.std.specs.Prelude.{◌≡◌, ◌*◌, ◌<◌, ◌≤◌, ◌^◌, length, All, IsTrue, IsFalse};
 ghost use Rattle.lop_cuts.specs.Kind.{FitsCut};
 ghost use Rattle.lop_basis.specs.Basis.{one_more};
+ghost use Rattle.lop_basis.specs.declared.room.TheConstants.{MAX_ROWS};
 ghost use Rattle.lop_simplex.specs.Answers.{IsStop};
 ghost use Rattle.lop_simplex.specs.Run.{IsReady, HasMoved, IsStep};
 ghost use Rattle.lop_model.specs.declared.weights.TheConstants.{MAX_OBJECTS};
@@ -200,15 +201,15 @@ pub fn run_in(
     prices: &mut [i64],
     max_pivots: u32,
 ) -> LpStop
-    requires basis { basis.old.room ≡ 1024 }
-    requires at_most { length rows.now ≤ 1024 }
+    requires basis { basis.old.room ≡ MAX_ROWS }
+    requires at_most { length rows.now ≤ MAX_ROWS }
     requires square { length table.old ≡ n * n }
     requires within_limit { n ≤ MAX_OBJECTS }
     requires fit { All (FitsCut n) rows.now }
-    requires heads { length heads.old ≡ 1024 }
-    requires input { length input.old ≡ 1024 }
-    requires output { length output.old ≡ 1024 }
-    requires prices { length prices.old ≡ 1024 }
+    requires heads { length heads.old ≡ MAX_ROWS }
+    requires input { length input.old ≡ MAX_ROWS }
+    requires output { length output.old ≡ MAX_ROWS }
+    requires prices { length prices.old ≡ MAX_ROWS }
     ensures room { basis.new.room ≡ basis.old.room }
     ensures stop { IsStop max_pivots basis.new.done basis.new.refused result }
 {

@@ -1,5 +1,5 @@
 ghost use Rattle.std.specs.Prelude.{◌≤◌};
-ghost use Rattle.lop_leaf.specs.declared.leaf_record.TheConstants.{MAX_SCALE};
+ghost use Rattle.lop_cuts.specs.declared.limits.TheConstants.{MAX_SCALE};
 
 use lop_cuts::Cut;
 use lop_fix::{Decision, Fixings};

@@ -1,11 +1,11 @@
 use Rattle.std.proofs.Common.{◌≡◌, ◌∙◌, refl, ap, sym, subst, arith, rules, ℕ, List, length, FitsSigned}
 use Rattle.std.specs.Int.{w128}
 use Rattle.std.proofs.lemmas.Int.{to_z-of_z}
+use Rattle.lop_model.proofs.CellLemmas.{put_back}
 use Rattle.lop_cuts.specs.declared.kind.CutKind.{CutKind}
 use Rattle.lop_certtext.specs.RecordLine.{CertRecord, terms_of}
 use Rattle.lop_certtext.specs.Answer.{leaf_value}
 use Rattle.lop_check.specs.Records.{IsRow}
-use Rattle.lop_check.proofs.TrailLemmas.{put_back}
 use Rattle.lop_check.proofs.node.shown_by_line.Goals as goal
 
 pub returns : goal.returns

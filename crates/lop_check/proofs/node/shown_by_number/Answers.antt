@@ -1,6 +1,7 @@
 use Rattle.std.proofs.Common.{◌≡◌, ◌∙◌, [], refl, ap, sym, subst, arith, rules, ℕ, ℤ, List, length, get_or, pos, nat_abs, Some, w64, FitsSigned}
 use Rattle.std.specs.Int.{w128}
 use Rattle.std.proofs.lemmas.Int.{to_z-of_z}
+use Rattle.lop_model.proofs.CellLemmas.{put_back}
 use Rattle.lop_cuts.specs.declared.kind.CutKind.{CutKind}
 use Rattle.lop_cuts.specs.Lagrangian.{lagrangian_value}
 use Rattle.lop_certtext.specs.RecordLine.{CutTerm, named_of, terms_in, terms_of}
@@ -8,7 +9,6 @@ use Rattle.lop_certtext.specs.Answer.{leaf_value}
 use Rattle.lop_check.specs.Records.{AreTerms, IsPlace, IsRecordOver, record_at}
 use Rattle.lop_check.proofs.NodeLemmas.{one_front}
 use Rattle.lop_check.proofs.RecordLemmas.{named_one, terms_over}
-use Rattle.lop_check.proofs.TrailLemmas.{put_back}
 use Rattle.lop_check.proofs.node.shown_by_number.Goals as goal
 
 pub upper-upper-requires-clause-row : goal.upper-upper-requires-clause-row

@@ -4,7 +4,8 @@ use Rattle.lop_fix.specs.PartialOrder.{FixedPairs}
 use Rattle.lop_fix.specs.Table.{at, Links, IsClosedTable}
 use Rattle.lop_model.specs.Related.{pairs_of}
 use Rattle.lop_model.specs.Related.{pair}
-use Rattle.lop_fix.proofs.TableFixings.{at-fresh, put_back, IsPartialOrder-table, IsClosedTable-link, closure_after}
+use Rattle.lop_fix.proofs.TableFixings.{at-fresh, IsPartialOrder-table, IsClosedTable-link, closure_after}
+use Rattle.lop_model.proofs.CellLemmas.{put_back}
 use Rattle.lop_model.proofs.ClosureLemmas.{HaveSameExtensions-closure}
 use Rattle.lop_fix.proofs.fixings.Fixings.add.Goals as goal
 

@@ -1,6 +1,7 @@
 use Rattle.std.proofs.Common.{ap, ◌∙◌, ◌≡◌, ◌*◌, length, sym, arith}
+use Rattle.lop_model.proofs.CellLemmas.{put_back}
 use Rattle.lop_fix.specs.Table.{row_words}
-use Rattle.lop_fix.proofs.TableFixings.{IsClosedTable-none, none-fixed, put_back, IsPartialOrder-none}
+use Rattle.lop_fix.proofs.TableFixings.{IsClosedTable-none, none-fixed, IsPartialOrder-none}
 use Rattle.lop_fix.proofs.fixings.Fixings.clear.Goals as goal
 
 pub invariant_of-self : goal.invariant_of-self

@@ -1,5 +1,5 @@
 -- Bounds of products in units of 2^-32.
-use Rattle.std.proofs.Common.{◌≡◌, ℕ, suc, ◌*◌, ◌/◌, ◌≤◌, ◌^◌, ℤ, pos, negsuc, neg_ℤ, ◌*ℤ◌, ◌≤ℤ◌, nat_abs, arith}
+use Rattle.std.proofs.Common.{ℕ, suc, ◌*◌, ◌/◌, ◌≤◌, ◌^◌, ℤ, pos, negsuc, neg_ℤ, ◌*ℤ◌, ◌≤ℤ◌, arith}
 use Rattle.std.specs.Prelude.{int_div, unsigned_abs}
 use Rattle.std.proofs.Math.Nat.{mul-le-mul, div-le_of_le-mul}
 use Rattle.std.proofs.lemmas.Int.{ints, unsigned_abs-mul}

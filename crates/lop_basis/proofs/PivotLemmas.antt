@@ -1,12 +1,12 @@
 -- A pivot from its two passes.
-use Rattle.std.proofs.Common.{◌≡◌, ◌≢◌, ℕ, zero, suc, ◌+◌, ◌<◌, ◌≤◌, List, length, inl, inr, refl, sym, ◌∙◌, ap, subst, arith, ℤ, pos, ◌-ℤ◌, w64, Bool, true, false, cond, eqb, ⊎_elim}
+use Rattle.std.proofs.Common.{◌≡◌, ◌≢◌, ℕ, suc, ◌<◌, List, inl, inr, sym, ◌∙◌, subst, arith, ℤ, ◌-ℤ◌, w64, false, eqb, ⊎_elim}
 use Rattle.std.specs.Prelude.{FitsSigned}
 use Rattle.std.proofs.lemmas.Bool.{cases_eq}
 use Rattle.std.proofs.lemmas.Bool.Decides.{nat_tests}
-use Rattle.lop_basis.specs.Fixed.{product, quotient}
+use Rattle.lop_basis.specs.Fixed.{product}
 use Rattle.lop_basis.specs.Table.{at, cell}
 use Rattle.lop_basis.specs.Cells.{difference, ChangesRow, IsFirstInRow, ChangesOthersBelow, IsFirstInOthers, HasAllNew}
-use Rattle.lop_basis.specs.Pivot.{new_of_pivot_row, new_cell, turn, ComesBefore, IsFirstToLeave}
+use Rattle.lop_basis.specs.Pivot.{new_of_pivot_row, new_cell, turn, IsFirstToLeave}
 use Rattle.lop_basis.proofs.RowLemmas.{difference_kept}
 
 -- the new entries of the pivot row

@@ -1,5 +1,5 @@
 -- Reads and writes of tables of n rows of n numbers.
-use Rattle.std.proofs.Common.{◌≡◌, ℕ, ◌+◌, ◌*◌, ◌<◌, List, length, get_or, set, inl, inr, refl, sym, ◌∙◌, ap, arith, ℤ, pos, ◌^◌, Bool, true, false, cond, eqb, ltb, ◌&&◌, if◌then◌else◌}
+use Rattle.std.proofs.Common.{◌≡◌, ℕ, ◌+◌, ◌*◌, ◌<◌, List, length, set, inl, inr, sym, ◌∙◌, ap, arith, ℤ, pos, ◌^◌, Bool, true, ◌&&◌, if◌then◌else◌}
 use Rattle.std.proofs.lemmas.Bool.{cases_eq}
 use Rattle.std.proofs.lemmas.List.{get_or-set_same, get_or-set_other}
 use Rattle.std.specs.Prelude.{◌==◌, nat_lt}

@@ -1,5 +1,5 @@
 -- What the two passes of a pivot do to a table: the pivot row is divided, then multiples of it are taken from the other rows.
-use Rattle.std.specs.Prelude.{◌≡◌, ◌≢◌, ◌⊎◌, ℕ, ◌<◌, List, length, ℤ, ◌-ℤ◌, FitsSigned}
+use Rattle.std.specs.Prelude.{◌≡◌, ◌≢◌, ℕ, ◌<◌, List, length, ℤ, ◌-ℤ◌, FitsSigned}
 use Rattle.std.specs.Int.{w64}
 use Rattle.lop_basis.specs.Fixed.{product}
 use Rattle.lop_basis.specs.Table.{at, cell}

@@ -1,5 +1,5 @@
 -- The text of a certificate that is true is accepted.
-use Rattle.std.proofs.Common.{◌≡◌, ◌≢◌, ℕ, ◌+◌, ◌-◌, ◌*◌, ◌^◌, ◌<◌, ◌≤◌, suc, Bool, true, false, ◌&&◌, ◌==◌, cond, List, [], ◌∷◌, ◌++◌, length, map, codes, nat_lt, nat_le, get_or, ℤ, pos, nat_abs, Option, None, Some, refl, sym, ◌∙◌, ap, arith}
+use Rattle.std.proofs.Common.{◌≡◌, ℕ, ◌+◌, ◌-◌, ◌*◌, ◌^◌, ◌<◌, ◌≤◌, suc, Bool, true, ◌&&◌, ◌==◌, cond, List, [], ◌∷◌, ◌++◌, length, map, codes, nat_lt, nat_le, get_or, ℤ, pos, nat_abs, Option, None, Some, refl, sym, ◌∙◌, ap, arith}
 use Rattle.std.specs.Prelude.{int_lt, int_le, ◌<ℤ◌, All}
 use Rattle.std.specs.List.{flat_map, list_all, slice_split}
 use Rattle.std.proofs.lemmas.Bool.{and_from, lt-ltb, le-ltb, le-leb, eq-eqb}
@@ -10,7 +10,6 @@ use Rattle.std.proofs.lemmas.List.Elements.{All-cons, All-head, All-tail, All-ge
 use Rattle.std.proofs.lemmas.List.Folds.{list_all-append}
 use Rattle.std.proofs.lemmas.List.Splits.{slice_split_at}
 use Rattle.lop_model.specs.declared.pair.Pair.{Pair}
-use Rattle.lop_model.specs.Order.{IsOrder}
 use Rattle.lop_model.specs.Matrix.{Matrix, IsWeights, weight}
 use Rattle.lop_cuts.specs.declared.kind.Cycle.{Cycle}
 use Rattle.lop_cuts.specs.declared.kind.Cycle.TheVariants.{Three, Four}
@@ -22,12 +21,12 @@ use Rattle.lop_certtext.specs.declared.limits.TheConstants.{MAX_CUTS, MAX_RECORD
 use Rattle.lop_certtext.specs.declared.version.CertVersion.{CertVersion}
 use Rattle.lop_certtext.specs.declared.version.CertVersion.TheVariants.{One, Two}
 use Rattle.lop_certtext.specs.declared.word.CertWord.{CertWord}
-use Rattle.lop_certtext.specs.declared.word.CertWord.TheVariants.{Version, Objects, OrderLine, Value, Bound, Cuts, RecordsLine, RecordLine, Leaf, End}
+use Rattle.lop_certtext.specs.declared.word.CertWord.TheVariants.{Version, Objects, OrderLine, Value, Bound, Cuts, RecordsLine, End}
 use Rattle.lop_certtext.specs.declared.reason.Reason.TheVariants as reason
 use Rattle.lop_certtext.specs.Line.{CertLine, is_count, are_counts, is_row, word_text, line_text}
 use Rattle.lop_model.specs.Closing.{AreClosures}
 use Rattle.lop_certtext.specs.CutLine.{numbers_of_objects, cycle_numbers, cut_line, IsShapedCycle, IsShapedCut, objects_of, cut_of}
-use Rattle.lop_certtext.specs.RecordLine.{CertRecord, numbered_record, term_count, record_numbers, record_line, leaf_numbers, leaf_line, record_of, if_within, leaf_of}
+use Rattle.lop_certtext.specs.RecordLine.{CertRecord, numbered_record, term_count, record_line, leaf_numbers, leaf_line, record_of, if_within, leaf_of}
 use Rattle.lop_certtext.specs.Tree.{Tree, leaf, split, split_line, tree_lines, IsRecord, IsLeaf, IsTree}
 use Rattle.lop_model.specs.Reversed.{reversed}
 use Rattle.lop_certtext.specs.Certificate.{Certificate, version_number, record_lines, certificate_lines, certificate_text, text_of, HasText, IsTreeCertificate}

@@ -1,5 +1,5 @@
 -- Trees as their lines are read: each leaf with the numbers of its line, and the record that these give.
-use Rattle.std.proofs.Common.{◌≡◌, ℕ, ◌+◌, ◌-◌, ◌≤◌, zero, suc, true, List, [], ◌∷◌, ◌++◌, length, get_or, ℤ, pos, Option, Some, refl, sym, ◌∙◌, ap, subst, arith}
+use Rattle.std.proofs.Common.{◌≡◌, ℕ, ◌+◌, ◌-◌, zero, suc, true, List, [], ◌∷◌, ◌++◌, length, get_or, ℤ, Option, Some, refl, sym, ◌∙◌, ap, subst, arith}
 use Rattle.std.specs.Prelude.{All}
 use Rattle.std.specs.List.{range_with_len}
 use Rattle.std.proofs.lemmas.List.{append_assoc, append-nil, length-append}
@@ -16,7 +16,7 @@ use Rattle.lop_certtext.specs.declared.version.CertVersion.TheVariants.{One, Two
 use Rattle.lop_certtext.specs.declared.word.CertWord.TheVariants.{Leaf}
 use Rattle.lop_certtext.specs.Line.{CertLine, is_row}
 use Rattle.lop_certtext.specs.RecordLine.{CertRecord, numbered_record, record_numbers, leaf_line, record_of, named_of, terms_in}
-use Rattle.lop_certtext.specs.Tree.{Tree, leaf, split, named_by, split_line, tree_lines, IsRecord, IsLeaf, IsTree}
+use Rattle.lop_certtext.specs.Tree.{Tree, leaf, split, named_by, split_line, tree_lines, IsRecord, IsTree}
 use Rattle.lop_certtext.proofs.NodeText.{row-record_of, row-named_of}
 
 pub data RowTree : Type 0 where

@@ -8,8 +8,8 @@ use Rattle.std.proofs.lemmas.List.{length-append}
 use Rattle.std.proofs.lemmas.List.Elements.{All-nil, All-cons, All-head, All-tail, All-get_or}
 use Rattle.lop_model.specs.declared.pair.Pair.{Pair}
 use Rattle.lop_model.specs.Fixings.{IsClosure, IsUndecided}
-use Rattle.lop_certtext.specs.declared.word.CertWord.TheVariants.{SplitLine, RecordLine}
-use Rattle.lop_certtext.specs.Line.{CertLine, is_count, are_counts, line_text}
+use Rattle.lop_certtext.specs.declared.word.CertWord.TheVariants.{SplitLine}
+use Rattle.lop_certtext.specs.Line.{is_count, are_counts}
 use Rattle.lop_certtext.specs.Reading.{number_word}
 use Rattle.lop_certtext.specs.CutLine.{numbers_of_objects, name_objects}
 use Rattle.lop_cuts.specs.declared.limits.TheConstants.{MAX_SCALE, MAX_TERMS}

@@ -1,10 +1,10 @@
 -- Nothing is accepted but the text of a certificate that is true.
-use Rattle.std.proofs.Common.{◌≡◌, ◌≢◌, ℕ, ◌+◌, ◌-◌, ◌^◌, ◌<◌, ◌≤◌, zero, suc, Bool, true, false, ◌&&◌, ◌==◌, cond, List, [], ◌∷◌, ◌++◌, length, map, codes, nat_lt, nat_le, get_or, ℤ, pos, negsuc, nat_abs, Option, None, Some, refl, sym, ◌∙◌, ap, subst, arith}
+use Rattle.std.proofs.Common.{◌≡◌, ℕ, ◌+◌, ◌^◌, ◌<◌, ◌≤◌, zero, suc, Bool, true, false, ◌&&◌, ◌==◌, cond, List, [], ◌∷◌, ◌++◌, length, map, codes, nat_lt, nat_le, ℤ, pos, negsuc, nat_abs, Option, None, Some, refl, sym, ◌∙◌, ap, subst, arith}
 use Rattle.std.specs.Prelude.{int_lt, int_le, ◌<ℤ◌, All}
 use Rattle.std.specs.List.{slice_split, join_with_byte}
-use Rattle.std.proofs.lemmas.Bool.{and_parts, or_parts, false≢true, ltb-true, ltb-false, leb-true, eqb-true, eqb-false}
+use Rattle.std.proofs.lemmas.Bool.{and_parts, false≢true, ltb-true, ltb-false, leb-true, eqb-true}
 use Rattle.std.proofs.lemmas.Int.{ints}
-use Rattle.std.proofs.lemmas.List.{append_assoc, append-nil, length-map, map-append}
+use Rattle.std.proofs.lemmas.List.{append_assoc, append-nil, map-append}
 use Rattle.std.proofs.lemmas.List.Elements.{All-nil, All-cons}
 use Rattle.std.proofs.lemmas.List.Splits.{join_with_byte-slice_split, length-slice_split}
 use Rattle.lop_model.specs.declared.pair.Pair.{Pair}
@@ -25,8 +25,8 @@ use Rattle.lop_model.specs.Closing.{AreClosures, closed}
 use Rattle.lop_model.proofs.Closings.{AreClosures-closed}
 use Rattle.lop_cuts.proofs.CertifiedPaths.{CertifiesUnder-one}
 use Rattle.lop_certtext.specs.CutLine.{numbers_of_objects, objects_of, cut_line, cut_of, IsShapedCut}
-use Rattle.lop_certtext.specs.RecordLine.{CertRecord, term_count, numbered_record, record_line, leaf_line, record_of, if_within, leaf_of, terms_in}
-use Rattle.lop_certtext.specs.Tree.{Tree, leaf, split, split_line, named_by, tree_lines, IsRecord, IsTree}
+use Rattle.lop_certtext.specs.RecordLine.{CertRecord, term_count, record_line, leaf_line, record_of, if_within, leaf_of, terms_in}
+use Rattle.lop_certtext.specs.Tree.{Tree, split_line, tree_lines, IsRecord, IsTree}
 use Rattle.lop_model.specs.Reversed.{reversed}
 use Rattle.lop_certtext.specs.Certificate.{Certificate, version_number, record_lines, certificate_lines, text_of, HasText, IsTreeCertificate, IsCertificateText}
 use Rattle.lop_certtext.specs.Answer.{TextLine, ended_line, unended_line, long_line, long_file, limited, lines_from, text_lines, CheckAnswer, accepted, rejected, with_line, spelled, expect, is_version, is_objects, is_order_line, is_value, is_bound, is_cuts, is_records_line, is_record_line, is_end, only_number, version_of, is_order, version_step, objects_step, order_step, value_step, bound_step, cuts_step, cuts_left_step, records_step, records_left_step, with_record, is_cut_word, with_cut, cut_step, tree_step, node_step, split_step, leaf_step, leaf_value, leaf_limit, split_of, end_step, tail_step, IsCheckAnswer}
@@ -34,7 +34,7 @@ use Rattle.lop_certtext.proofs.Lines.{line_text-line_reading}
 use Rattle.lop_certtext.proofs.CutText.{count_is, line-cut_of}
 use Rattle.lop_certtext.proofs.ObjectNumbers.{IsOrder-is_order}
 use Rattle.lop_certtext.proofs.NodeText.{row-record_of, line-split_of}
-use Rattle.lop_certtext.proofs.LeafRows.{RowTree, row_leaf, row_split, row_lines, IsRowTree, ReadTree, named_tree, numbered_tree}
+use Rattle.lop_certtext.proofs.LeafRows.{RowTree, row_leaf, row_split, row_lines, IsRowTree, named_tree, numbered_tree}
 use Rattle.lop_certtext.proofs.AcceptedText.{ended, length-text_of, lines_from-more, version_line, objects_line, order_line, value_line, bound_line, cuts_line, records_line, term_count-more, end_line}
 
 -- ---- rows

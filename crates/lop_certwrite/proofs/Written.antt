@@ -1,5 +1,5 @@
 -- Pieces that are written one after another, and where that may be cut off.
-use Rattle.std.proofs.Common.{◌≡◌, List, ℕ, ◌+◌, ◌++◌, Option, Result, IsErrAnd, sym, subst, [], ◌∷◌}
+use Rattle.std.proofs.Common.{◌≡◌, List, ℕ, ◌++◌, Option, Result, IsErrAnd, sym, subst, [], ◌∷◌}
 use Rattle.std.proofs.lemmas.List.{append-nil}
 use Rattle.std.proofs.lemmas.Grind.{flat_map-append}
 use Rattle.std.specs.Prelude.{codes}

@@ -16,7 +16,7 @@ module _ {T : Type 0} (put : List ℕ → T → T) (more : (xs ys : List ℕ) (t
   piece_all old mid bytes done so_far le = so_far ∙ ap (λ (l : List ℕ). put l old) (take_all done bytes le)
 
   -- a prefix of the bytes went out
-  IsFront : T → T → List ℕ → Type 0
+  abbrev pub IsFront : T → T → List ℕ → Type 0
   IsFront old new bytes = (n : ℕ) × (new ≡ put (take n bytes) old)
 
   -- the front of a piece is the front of a longer text
@@ -35,7 +35,7 @@ module _ {T : Type 0} (put : List ℕ → T → T) (more : (xs ys : List ℕ) (t
       (length first + n, is ∙ ap (λ (t : T). put (take n rest) t) done ∙ more first (take n rest) old ∙ ap (λ (l : List ℕ). put l old) (sym (take-append-add first rest n)))
 
   -- all of the bytes went out; after an Err a prefix of them
-  IsAll : {E : Type 0} → T → T → List ℕ → Result (Unit {0}) E → Type 0
+  abbrev pub IsAll : {E : Type 0} → T → T → List ℕ → Result (Unit {0}) E → Type 0
   IsAll old new bytes result = MatchResult result (λ _. new ≡ put bytes old) (λ _. IsFront old new bytes)
 
   -- a call that failed in the first piece

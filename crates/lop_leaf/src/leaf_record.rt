@@ -1,5 +1,6 @@
 ghost use Rattle.std.specs.Prelude.{◌≡◌, ◌≢◌, ◌<◌, ◌≤◌, ◌^◌, [], ◌∷◌, ◌++◌, length, All, slice_index_or, IfOk};
 ghost use Rattle.lop_cuts.specs.Kind.{IsCut};
+ghost use Rattle.lop_cuts.specs.declared.limits.TheConstants.{MAX_SCALE, MAX_TERMS};
 
 use lop_cuts::{Cut, MAX_TERMS};
 use std::alloc::{AllocError, Global};

@@ -1,5 +1,4 @@
 use Rattle.lop_basis.proofs.RowLemmas.{HasChangedBelow}
-use Rattle.lop_basis.specs.Cells.{difference}
 use Rattle.lop_basis.specs.Pivot.{new_of_pivot_row}
 use Rattle.lop_basis.proofs.cells.divide_row.Given as goal
 

@@ -1,6 +1,5 @@
 use Rattle.lop_basis.proofs.RowLemmas.{HasChangedBelow}
 use Rattle.lop_basis.specs.Cells.{difference}
-use Rattle.lop_basis.specs.Pivot.{new_of_pivot_row}
 use Rattle.lop_basis.proofs.cells.subtract_row.Given as goal
 
 abbrev pub invariant-loop-j : goal.invariant-loop-j

@@ -1,5 +1,4 @@
-use Rattle.std.proofs.Common.{◌≢◌, ◌≡◌, arith, subst, sym, ℕ, List, ℤ}
-use Rattle.lop_basis.proofs.RowLemmas.{HaveChangedBelow, pivot_row_passed, row_changed}
+use Rattle.lop_basis.proofs.RowLemmas.{pivot_row_passed, row_changed}
 use Rattle.lop_basis.proofs.cells.subtract_rows.Goals as goal
 use Rattle.lop_basis.proofs.cells.subtract_rows.Goals.{then-row-pivot_row+in_default, else-row-pivot_row}
 

@@ -1,5 +1,4 @@
 use Rattle.lop_basis.proofs.RowLemmas.{HaveChangedBelow}
-use Rattle.lop_basis.specs.Cells.{difference}
 use Rattle.lop_basis.proofs.cells.subtract_rows.Given as goal
 
 abbrev pub invariant-loop-row : goal.invariant-loop-row

@@ -1,4 +1,4 @@
-use Rattle.std.proofs.Common.{◌≡◌, ◌∙◌}
+use Rattle.std.proofs.Common.{◌∙◌}
 use Rattle.std.proofs.lemmas.List.{length-set}
 use Rattle.lop_basis.proofs.TableLemmas.{diagonal_more}
 use Rattle.lop_basis.proofs.cells.write_identity.Goals as goal

@@ -1,6 +1,6 @@
-use Rattle.std.proofs.Common.{◌≤◌, ◌^◌, ◌≡◌, ◌*◌, ◌*ℤ◌, ◌∙◌, arith, rules, FitsSigned, w64, ap, sym, subst, ℤ, pos, ◌≤ℤ◌, to_z, of_z}
+use Rattle.std.proofs.Common.{◌≤◌, ◌^◌, ◌≡◌, ◌*ℤ◌, arith, FitsSigned, pos, to_z, of_z}
 use Rattle.std.specs.Int.{w128}
-use Rattle.std.specs.Prelude.{unsigned_abs, int_div}
+use Rattle.std.specs.Prelude.{unsigned_abs}
 use Rattle.std.proofs.lemmas.Int.{ints, to_z-of_z, fits_signed_mul, quot_fits}
 use Rattle.lop_basis.specs.Fixed.{product}
 use Rattle.lop_basis.proofs.FixedLemmas.{product-within}

@@ -1,4 +1,4 @@
-use Rattle.lop_basis.specs.Solve.{row_sum, column_sum, AreWrittenBelow}
+use Rattle.lop_basis.specs.Solve.{column_sum, AreWrittenBelow}
 use Rattle.lop_basis.proofs.sums.write_column_sums.Given as goal
 
 abbrev pub invariant-loop-i : goal.invariant-loop-i

@@ -1,4 +1,4 @@
-use Rattle.lop_basis.specs.Solve.{row_sum, column_sum, AreWrittenBelow}
+use Rattle.lop_basis.specs.Solve.{row_sum, AreWrittenBelow}
 use Rattle.lop_basis.proofs.sums.write_row_sums.Given as goal
 
 abbrev pub invariant-loop-j : goal.invariant-loop-j

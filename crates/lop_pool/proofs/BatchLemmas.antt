@@ -11,7 +11,7 @@ use Rattle.lop_core.specs.Tree.{node_at, path_of}
 use Rattle.lop_core.specs.Machine.{SearchState, IsOutTo}
 use Rattle.lop_pool.specs.declared.parcel.Parcel.{Parcel}
 use Rattle.lop_pool.specs.Judged.{Relation, IsJudgedResult}
-use Rattle.lop_pool.specs.Holding.{HasNone, HasTicket, HasTickets, HasBeside, IsHanded, AreSoundTickets, IsJudgedParcel, AreJudgedParcels, IsLike}
+use Rattle.lop_pool.specs.Holding.{HasNone, HasTicket, HasTickets, HasBeside, IsHanded, AreSoundTickets, AreJudgedParcels, IsLike}
 use Rattle.lop_pool.proofs.HoldingLemmas.{judged_result}
 
 element : (xs : List Parcel) (k : ℕ) → k < length xs → Parcel

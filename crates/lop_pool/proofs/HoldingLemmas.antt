@@ -1,5 +1,5 @@
 -- What a worker holds stays so, whatever the others do.
-use Rattle.std.proofs.Common.{◌≡◌, ◌≢◌, ℕ, ◌+◌, inl, inr, List, [], ◌∷◌, ◌++◌, get_or, arith, sym, ◌∙◌, Some, Option, refl, ap, subst, true, false}
+use Rattle.std.proofs.Common.{◌≡◌, ◌≢◌, ℕ, inl, inr, List, [], ◌∷◌, ◌++◌, get_or, arith, sym, ◌∙◌, Some, Option, refl, ap, subst, true, false}
 use Rattle.std.specs.Prelude.{slice_get, pos, ◌≤ℤ◌, map, ◌==◌}
 use Rattle.std.proofs.lemmas.Int.{ints}
 use Rattle.std.proofs.lemmas.Bool.{false≢true, eqb-true}
@@ -16,7 +16,7 @@ use Rattle.lop_core.specs.declared.journal.Entry.TheVariants.{Take}
 use Rattle.lop_core.specs.declared.reply.TakeReply.{TakeReply}
 use Rattle.lop_core.specs.declared.reply.TakeReply.TheVariants.{Node, Done, AllOut, Spent}
 use Rattle.lop_core.specs.Tree.{node_at, path_of, is_out, is_split, out_count}
-use Rattle.lop_core.specs.Machine.{Problem, SearchState, after, IsOutTo}
+use Rattle.lop_core.specs.Machine.{Problem, SearchState, IsOutTo}
 use Rattle.lop_core.specs.Journal.{replay, entries_of, takes, reports, HasTake, HasReport, MayTake, IsLawfulJournal}
 use Rattle.lop_core.specs.Core.{CoreFields, HasHistory, IsTake, IsTicketOf, IsSoundReport, IsReported, with_entry, entry_of, has_room_for}
 use Rattle.lop_core.specs.Workers.{StandsStill}

@@ -1,6 +1,6 @@
 -- Reports of bounds of at most a mark.
-use Rattle.std.proofs.Common.{◌≡◌, ℕ, ◌<◌, List, [], ◌∷◌, ◌++◌, length, get_or, set, arith, refl, sym, ◌∙◌, ap, subst, Bool, true, false, cond, Option, Some, None, append-nil, append_assoc}
-use Rattle.std.specs.Prelude.{ℤ, ◌≤ℤ◌, All, int_lt}
+use Rattle.std.proofs.Common.{◌≡◌, ℕ, ◌<◌, List, [], ◌∷◌, ◌++◌, length, get_or, arith, refl, sym, ◌∙◌, ap, subst, Bool, true, false, cond, Option, Some, None, append-nil, append_assoc}
+use Rattle.std.specs.Prelude.{ℤ, ◌≤ℤ◌, int_lt}
 use Rattle.std.specs.Int.{int_max}
 use Rattle.std.proofs.lemmas.Int.{ints, clamps}
 use Rattle.std.proofs.lemmas.List.{get_or-set_same}
@@ -12,8 +12,7 @@ use Rattle.lop_core.specs.declared.node.Standing.TheVariants.{Idle}
 use Rattle.lop_core.specs.declared.journal.Entry.{Entry}
 use Rattle.lop_core.specs.declared.journal.Entry.TheVariants.{Take, Report}
 use Rattle.lop_core.specs.Tree.{node_at, is_split}
-use Rattle.lop_core.specs.Machine.{Problem, SearchState, closed, divided, settled, after, IsOutTo}
-use Rattle.lop_core.specs.Journal.{replay}
+use Rattle.lop_core.specs.Machine.{Problem, SearchState, closed, divided, settled, after}
 use Rattle.lop_core.specs.Core.{CoreFields, HasHistory, IsReported, entry_of, has_room_for}
 use Rattle.lop_turn.specs.Lists.{entries_by}
 use Rattle.lop_turn.proofs.Beginnings.{entries_by-append, entries_by-all}

@@ -1,4 +1,4 @@
-use Rattle.std.proofs.Common.{◌≡◌, ℕ, ◌+◌, ◌<◌, ◌≤◌, ◌⊎◌, false, length}
+use Rattle.std.proofs.Common.{◌≡◌, ℕ, ◌+◌, ◌<◌, ◌≤◌, ◌⊎◌, length}
 use Rattle.std.specs.List.{AllWithin}
 use Rattle.lop_core.specs.Core.{HasHistory}
 use Rattle.lop_pool.specs.Events.{events_by}

@@ -1,4 +1,4 @@
-use Rattle.std.proofs.Common.{◌≡◌, ◌+◌, ◌<◌, ◌≤◌, ◌∙◌, false, length, arith, ap, length-set}
+use Rattle.std.proofs.Common.{◌≡◌, ◌+◌, ◌<◌, ◌≤◌, ◌∙◌, length, arith, ap, length-set}
 use Rattle.std.proofs.lemmas.List.Elements.{All-set}
 use Rattle.lop_turn.specs.declared.view.View.{View}
 use Rattle.lop_pool.specs.declared.event.Event.{Event}

@@ -1,7 +1,7 @@
-use Rattle.std.proofs.Common.{◌≡◌, ◌<◌, ℕ, ◌∙◌, List, ◌++◌, length, take, drop, ap, arith, refl, sym, subst}
+use Rattle.std.proofs.Common.{◌≡◌, ℕ, ◌∙◌, List, ◌++◌, length, take, drop, ap, arith, refl, sym, subst}
 use Rattle.std.specs.Prelude.{All}
 use Rattle.lop_model.specs.Matrix.{Matrix, IsWeights}
-use Rattle.lop_core.specs.Machine.{Problem, SearchState}
+use Rattle.lop_core.specs.Machine.{Problem}
 use Rattle.lop_core.specs.Journal.{replay}
 use Rattle.lop_core.specs.Core.{CoreFields, HasHistory}
 use Rattle.lop_turn.specs.declared.view.View.{View}
@@ -9,7 +9,7 @@ use Rattle.lop_pool.specs.declared.event.Event.{Event}
 use Rattle.lop_pool.specs.declared.parcel.Parcel.{Parcel}
 use Rattle.lop_pool.specs.Events.{events_by}
 use Rattle.lop_pool.specs.Holding.{AreSoundTickets, Holds, HasTickets, WhateverElse}
-use Rattle.lop_pool.proofs.RoundLemmas.{known, knows_none, knows_tickets, holds_none, same_problem, turn_mine}
+use Rattle.lop_pool.proofs.RoundLemmas.{known, knows_tickets, holds_none, same_problem, turn_mine}
 use Rattle.lop_pool.specs.Marks.{GrowsWhole}
 use Rattle.lop_pool.specs.Workers.{ParcelFits}
 use Rattle.lop_pool.proofs.MarkLemmas.{whole_lower, own_whole}

@@ -1,4 +1,3 @@
-use Rattle.std.proofs.Common.{ℕ}
 use Rattle.lop_pool.specs.Holding.{Holds, WhateverElse}
 use Rattle.lop_pool.specs.Workers.{WorkerFits, IsPassFor}
 use Rattle.lop_pool.proofs.round.work.Given as goal

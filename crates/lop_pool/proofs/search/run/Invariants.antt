@@ -1,4 +1,4 @@
-use Rattle.std.proofs.Common.{◌≡◌, ◌-◌, false, length}
+use Rattle.std.proofs.Common.{◌≡◌, ◌-◌, length}
 use Rattle.std.specs.Prelude.{All}
 use Rattle.lop_core.specs.Tree.{out_count}
 use Rattle.lop_pool.specs.Workers.{WorkerFits}

@@ -1,4 +1,4 @@
-use Rattle.std.proofs.Common.{◌≡◌, ◌<◌, ◌∙◌, get_or, arith, refl, ap, sym, subst}
+use Rattle.std.proofs.Common.{◌∙◌, get_or, arith, refl, ap, sym, subst}
 use Rattle.std.proofs.lemmas.Int.{ints}
 use Rattle.lop_model.specs.Matrix.{Matrix}
 use Rattle.lop_core.specs.Machine.{Problem}

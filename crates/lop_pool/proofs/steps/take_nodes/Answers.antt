@@ -1,4 +1,4 @@
-use Rattle.std.proofs.Common.{◌≡◌, ◌<◌, ◌∙◌, length, arith, refl, ap, sym, subst, length-set}
+use Rattle.std.proofs.Common.{◌<◌, ◌∙◌, length, arith, refl, sym, subst, length-set}
 use Rattle.std.proofs.lemmas.Int.{ints}
 use Rattle.std.proofs.lemmas.List.Elements.{All-set}
 use Rattle.lop_leaf.specs.Sound.{IsSoundTicket}

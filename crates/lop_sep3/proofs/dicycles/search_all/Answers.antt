@@ -1,4 +1,4 @@
-use Rattle.std.proofs.Common.{◌-◌, Bool, true, false, length, subst, arith, filter}
+use Rattle.std.proofs.Common.{◌-◌, Bool, false, length, subst, arith, filter}
 use Rattle.lop_sep3.specs.Dicycles.{dicycles_from, violates}
 use Rattle.lop_sep3.specs.Search.{IsAppended}
 use Rattle.lop_sep3.proofs.SearchLemmas.{search_next, search_stop}

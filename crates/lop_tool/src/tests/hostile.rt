@@ -2,7 +2,7 @@
 use super::certificates::NAMED;
 use super::{
     CHECK, LUNCH_ROW, REVERSED_ROW, Row, SECTORS, SECTORS_SOLVED, SOLVE, TIE, TIGHT, TIGHT_ROW,
-    desk, ends, ends_on, status,
+    desk, ends, ends_on, ran,
 };
 use lop_desk::MemoryDesk;
 use std::alloc::Global;
@@ -37,8 +37,7 @@ fn fails_at_each_call<R: Abort + Threads + Sync>(
 ) -> Result<(), Fail> {
     let (a, b, line, wanted, text) = *row;
     for call in 1..100 {
-        let mut memory = desk(alloc, a, b, &[call], 1000)?;
-        let ends = status(rt, alloc, line, &mut memory)?;
+        let (ends, memory) = ran(rt, alloc, (a, b), line, &[call], 1000)?;
         if memory.faults() == 0 {
             assert_eq!(rt;
                 (ends, memory.printed(), memory.file("c")),

@@ -7,8 +7,6 @@ mod read;
 mod reason;
 mod room;
 mod row;
-#[cfg(test)]
-mod tests;
 mod version;
 mod word;
 mod write;

@@ -7,8 +7,6 @@ mod head;
 mod line;
 mod names;
 mod record;
-#[cfg(test)]
-mod tests;
 mod tree;
 mod walk;
 mod writer;

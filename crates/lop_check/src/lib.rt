@@ -24,6 +24,3 @@ mod verdict;
 pub use checker::{CheckRoom, check};
 pub use lop_certtext::Reason;
 pub use verdict::Verdict;
-
-#[cfg(test)]
-mod tests;

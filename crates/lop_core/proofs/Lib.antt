@@ -21,7 +21,6 @@ pub mod Extensions
 pub mod OrderCount
 pub mod NodeCount
 pub mod DoneNodes
-pub mod JudgeLemmas
 pub mod Monotone
 pub mod Alone
 pub mod OutLemmas

@@ -14,8 +14,6 @@ mod scan;
 mod search;
 mod settle;
 mod start;
-#[cfg(test)]
-mod tests;
 
 pub use journal::Entry;
 pub use node::{NodeView, SearchNode, Standing};

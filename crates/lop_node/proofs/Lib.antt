@@ -2,6 +2,5 @@ pub mod ExtensionLemmas
 pub mod SoundLemmas
 pub mod PackLemmas
 pub mod PruneLemmas
-pub mod RootLemmas
 pub mod BetterLemmas
 pub mod RoundLemmas

@@ -12,13 +12,11 @@ mod judge;
 mod margins;
 mod pack_judge;
 mod pool;
-mod pruning;
+pub mod pruning;
 mod rounds;
 mod search;
-mod seen;
+pub mod seen;
 mod start;
-#[cfg(test)]
-mod tests;
 
 pub use cut_judge::CutJudge;
 pub use judge::Judge;

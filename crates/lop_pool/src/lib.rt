@@ -15,8 +15,6 @@ mod round;
 mod rounds;
 mod search;
 mod steps;
-#[cfg(test)]
-mod tests;
 mod worker;
 
 pub use end::SearchEnd;

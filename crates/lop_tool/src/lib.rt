@@ -19,6 +19,3 @@ mod weighing;
 pub use dispatch::run;
 pub use lop_pool::{Gate, OpenGate};
 pub use round_trip::solve_then_check;
-
-#[cfg(test)]
-mod tests;

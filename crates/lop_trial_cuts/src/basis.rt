@@ -1,5 +1,6 @@
 ghost use Rattle.std.specs.Prelude.{◌≡◌, IsTrue};
 
+use crate::expected::{holds_at, same};
 use lop_basis::{BasisRoom, Pivot, Solved};
 use std::alloc::{AllocError, Global};
 use std::test::Fail;
@@ -34,7 +35,11 @@ fn pivots_of_one_row(rt: HostRuntime) -> Result<(), Fail> {
         (-12_884_901_888, Pivot::Done, -1_431_655_765),
     ];
     for (number, answer, entry) in cases {
-        assert_eq!(rt; first_pivot(rt.alloc(), number)?, (answer, Some(entry)));
+        same(
+            &rt,
+            &first_pivot(rt.alloc(), number)?,
+            &(answer, Some(entry)),
+        );
     }
     Ok(())
 }
@@ -43,29 +48,40 @@ fn pivots_of_one_row(rt: HostRuntime) -> Result<(), Fail> {
 fn the_second_pivot_overflows(rt: HostRuntime) -> Result<(), Fail> {
     let mut room = BasisRoom::new(rt.alloc(), 1)?;
     match room.pivot(0, &[4_096]) {
-        Pivot::Done => assert_eq!(rt; pivoted(&mut room, 4_096), (Pivot::Overflow(0, 0), None)),
-        _ => assert!(rt; false, "the first pivot is done"),
+        Pivot::Done => same(
+            &rt,
+            &pivoted(&mut room, 4_096),
+            &(Pivot::Overflow(0, 0), None),
+        ),
+        _ => holds_at(&rt, false, "the first pivot is done"),
     }
-    assert_eq!(rt; (room.done(), room.refused()), (1, 1));
+    same(&rt, &(room.done(), room.refused()), &(1, 1));
     Ok(())
+}
+
+// What the two solves of a room of two rows answer.
+fn solved(room: &mut BasisRoom) -> ((Solved, [i64; 2]), (Solved, [i64; 2]))
+    requires usable { IsTrue room.old.usable }
+    requires two_rows { room.old.rows ≡ 2 }
+{
+    let mut by_row = [0; 2];
+    let mut by_column = [0; 2];
+    let first = room.solve_row(&[1, 1], &mut by_row);
+    let second = room.solve_column(&[4_294_967_296, 1], &mut by_column);
+    ((first, by_row), (second, by_column))
 }
 
 // The inverse has rows (2^32, 0) and (-3, 2^32) after the pivot.
 #[test]
 fn solves_of_two_rows(rt: HostRuntime) -> Result<(), Fail> {
     let mut room = BasisRoom::new(rt.alloc(), 2)?;
-    let mut out = [0; 2];
     match room.pivot(0, &[4_294_967_296, 3]) {
-        Pivot::Done => {
-            assert_eq!(rt; room.solve_row(&[1, 1], &mut out), Solved::Done);
-            assert_eq!(rt; out, [1, 1]);
-            assert_eq!(rt;
-                room.solve_column(&[4_294_967_296, 1], &mut out),
-                Solved::Done
-            );
-            assert_eq!(rt; out, [4_294_967_296, -2]);
-        }
-        _ => assert!(rt; false, "the pivot is done"),
+        Pivot::Done => same(
+            &rt,
+            &solved(&mut room),
+            &((Solved::Done, [1, 1]), (Solved::Done, [4_294_967_296, -2])),
+        ),
+        _ => holds_at(&rt, false, "the pivot is done"),
     }
     Ok(())
 }

@@ -1,7 +1,10 @@
 ghost use Rattle.std.specs.Prelude.{◌≤◌, ◌^◌};
 
+use crate::expected::{holds, same};
 use lop_cuts::{Cut, CutFault, CutKind, CutList, Cycle, Point, is_violated};
 use lop_model::Pair;
+use std::alloc::Global;
+use std::process::Abort;
 use std::test::Fail;
 
 /// The arc from `before` to `after`.
@@ -12,13 +15,14 @@ fn arc(before: u16, after: u16) -> Pair {
 #[test]
 fn a_dicycle_keeps_two_of_three_arcs(rt: HostRuntime) -> Result<(), Fail> {
     let cut = Cut::dicycle(2, 0, 1, 3)?;
-    assert_eq!(rt;
-        cut.arcs().as_slice(),
-        [arc(2, 0), arc(0, 1), arc(1, 2)].as_slice()
+    same(
+        &rt,
+        &cut.arcs().as_slice(),
+        &[arc(2, 0), arc(0, 1), arc(1, 2)].as_slice(),
     );
-    assert_eq!(rt; cut.right_side(), 2);
-    assert!(rt; cut.has_arc(1, 2) && !cut.has_arc(2, 1));
-    assert_eq!(rt; cut.kind(), &CutKind::Dicycle([2, 0, 1]));
+    same(&rt, &cut.right_side(), &2);
+    holds(&rt, cut.has_arc(1, 2) && !cut.has_arc(2, 1));
+    same(&rt, cut.kind(), &CutKind::Dicycle([2, 0, 1]));
     Ok(())
 }
 
@@ -36,9 +40,9 @@ fn a_fence_lists_its_arcs_post_by_post(rt: HostRuntime) -> Result<(), Fail> {
         arc(5, 1),
         arc(2, 5),
     ];
-    assert_eq!(rt; cut.arcs().as_slice(), arcs.as_slice());
-    assert_eq!(rt; cut.right_side(), 7);
-    assert!(rt; cut.has_arc(5, 0) && !cut.has_arc(5, 2));
+    same(&rt, &cut.arcs().as_slice(), &arcs.as_slice());
+    same(&rt, &cut.right_side(), &7);
+    holds(&rt, cut.has_arc(5, 0) && !cut.has_arc(5, 2));
     Ok(())
 }
 
@@ -50,10 +54,13 @@ fn a_ladder_of_three_cycles_has_seven_arcs(rt: HostRuntime) -> Result<(), Fail> 
         Cycle::Three([3, 0, 2]),
     ];
     let cut = Cut::ladder(&cycles, 4)?;
-    assert_eq!(rt; cut.arcs().len(), 7);
-    assert_eq!(rt; cut.right_side(), 5);
-    assert!(rt; cut.has_arc(2, 0) && cut.has_arc(0, 2) && !cut.has_arc(2, 1));
-    assert!(rt; cut.copy() == cut);
+    same(&rt, &cut.arcs().len(), &7);
+    same(&rt, &cut.right_side(), &5);
+    holds(
+        &rt,
+        cut.has_arc(2, 0) && cut.has_arc(0, 2) && !cut.has_arc(2, 1),
+    );
+    holds(&rt, cut.copy() == cut);
     Ok(())
 }
 
@@ -62,7 +69,7 @@ fn cuts_stand_by_kind_and_then_by_objects(rt: HostRuntime) -> Result<(), Fail> {
     let low = Cut::dicycle(0, 1, 2, 6)?;
     let high = Cut::dicycle(0, 2, 1, 6)?;
     let fence = Cut::fence(&[0, 1, 2], &[3, 4, 5], 6)?;
-    assert!(rt; low < high && high < fence && low != high);
+    holds(&rt, low < high && high < fence && low != high);
     Ok(())
 }
 
@@ -75,7 +82,11 @@ fn objects_are_tested_place_by_place(rt: HostRuntime) {
         ([0, 1, 0], CutFault::Repeated(2)),
     ];
     for ([a, b, c], fault) in refused {
-        assert_eq!(rt; Cut::dicycle(a, b, c, 3).err(), Some(fault), "{a} {b} {c}");
+        same(
+            &rt,
+            &([a, b, c], Cut::dicycle(a, b, c, 3).err()),
+            &([a, b, c], Some(fault)),
+        );
     }
 }
 
@@ -87,7 +98,11 @@ fn a_fence_runs_over_u_and_then_w(rt: HostRuntime) {
         ([0, 6, 0], [3, 4, 5], CutFault::Range(1)),
     ];
     for (u, w, fault) in fences {
-        assert_eq!(rt; Cut::fence(&u, &w, 6).err(), Some(fault), "{u:?} {w:?}");
+        same(
+            &rt,
+            &(u, w, Cut::fence(&u, &w, 6).err()),
+            &(u, w, Some(fault)),
+        );
     }
 }
 
@@ -95,9 +110,10 @@ fn a_fence_runs_over_u_and_then_w(rt: HostRuntime) {
 fn a_fence_has_three_to_eight_posts(rt: HostRuntime) {
     let nine = [0, 1, 2, 3, 4, 5, 6, 7, 8];
     for (u, w) in [(3, 4), (2, 2), (9, 9)] {
-        assert_eq!(rt;
-            Cut::fence(&nine[..u], &nine[..w], 20).err(),
-            Some(CutFault::CountRange)
+        same(
+            &rt,
+            &Cut::fence(&nine[..u], &nine[..w], 20).err(),
+            &Some(CutFault::CountRange),
         );
     }
 }
@@ -112,7 +128,11 @@ fn cycles_are_tested_in_turn(rt: HostRuntime) {
     ];
     for (cycle, fault) in refused {
         let cycles = [wide, wide, cycle];
-        assert_eq!(rt; Cut::ladder(&cycles, 6).err(), Some(fault), "{cycle:?}");
+        same(
+            &rt,
+            &(cycle, Cut::ladder(&cycles, 6).err()),
+            &(cycle, Some(fault)),
+        );
     }
 }
 
@@ -124,25 +144,33 @@ fn a_ladder_has_an_odd_number_of_cycles(rt: HostRuntime) {
         (4, CutFault::CountEven),
         (10, CutFault::CountRange),
     ] {
-        assert_eq!(rt;
-            Cut::ladder(&many[..count], 6).err(),
-            Some(fault),
-            "{count} cycles"
+        same(
+            &rt,
+            &(count, Cut::ladder(&many[..count], 6).err()),
+            &(count, Some(fault)),
         );
     }
 }
 
+/// Faults and their names.
+const NAMED: &[(CutFault, &str)] = &[
+    (CutFault::CountRange, "CountRange"),
+    (CutFault::CountEven, "CountEven"),
+    (CutFault::Range(3), "Range"),
+    (CutFault::Repeated(4), "Repeated"),
+    (CutFault::ArcThrice(2), "ArcThrice"),
+];
+
+fn is_printed(rt: &impl Abort, alloc: Global, fault: CutFault, name: &str) -> Result<(), Fail> {
+    let text = fault.to_string(alloc)?;
+    same(rt, &text.as_str(), &name);
+    Ok(())
+}
+
 #[test]
 fn a_fault_is_printed_by_its_name(rt: HostRuntime) -> Result<(), Fail> {
-    let named = [
-        (CutFault::CountRange, "CountRange"),
-        (CutFault::CountEven, "CountEven"),
-        (CutFault::Range(3), "Range"),
-        (CutFault::Repeated(4), "Repeated"),
-        (CutFault::ArcThrice(2), "ArcThrice"),
-    ];
-    for (fault, name) in named {
-        assert_eq!(rt; format!(in rt.alloc(); "{fault}")?.as_str(), name);
+    for (fault, name) in NAMED {
+        is_printed(&rt, rt.alloc(), *fault, name)?;
     }
     Ok(())
 }
@@ -154,10 +182,10 @@ fn an_arc_and_its_reverse_add_up_to_one(rt: HostRuntime) -> Result<(), Fail> {
     point.set(1, 0, Point::ONE);
     let half = Point::ONE / 2;
     let rest = Point::ONE - 5;
-    assert_eq!(rt; point.row(0), [half, 0, 5].as_slice());
-    assert_eq!(rt; point.row(1), [Point::ONE, half, half].as_slice());
-    assert_eq!(rt; point.row(2), [rest, half, half].as_slice());
-    assert_eq!(rt; (point.n(), point.at(2, 0)), (3, rest));
+    same(&rt, &point.row(0), &[half, 0, 5].as_slice());
+    same(&rt, &point.row(1), &[Point::ONE, half, half].as_slice());
+    same(&rt, &point.row(2), &[rest, half, half].as_slice());
+    same(&rt, &(point.n(), point.at(2, 0)), &(3, rest));
     Ok(())
 }
 
@@ -178,10 +206,10 @@ fn violates(rt: &HostRuntime, first: u64, second: u64, third: u64) -> Result<boo
 #[test]
 fn a_cut_is_violated_above_its_right_side(rt: HostRuntime) -> Result<(), Fail> {
     let one = Point::ONE;
-    assert!(rt; !violates(&rt, one / 2, one / 2, one / 2)?);
-    assert!(rt; !violates(&rt, one, one, 0)?);
-    assert!(rt; violates(&rt, one, one, 1)?);
-    assert!(rt; !violates(&rt, one - 1, one, 1)?);
+    holds(&rt, !violates(&rt, one / 2, one / 2, one / 2)?);
+    holds(&rt, !violates(&rt, one, one, 0)?);
+    holds(&rt, violates(&rt, one, one, 1)?);
+    holds(&rt, !violates(&rt, one - 1, one, 1)?);
     Ok(())
 }
 
@@ -190,10 +218,10 @@ fn a_list_of_cuts_fills_its_room(rt: HostRuntime) -> Result<(), Fail> {
     let mut list = CutList::new(rt.alloc(), 2)?;
     list.put(Cut::dicycle(0, 1, 2, 3)?);
     list.put(Cut::dicycle(0, 2, 1, 3)?);
-    assert_eq!(rt; (list.len(), list.free()), (2, 0));
-    assert_eq!(rt; list.get(1).kind(), &CutKind::Dicycle([0, 2, 1]));
+    same(&rt, &(list.len(), list.free()), &(2, 0));
+    same(&rt, list.get(1).kind(), &CutKind::Dicycle([0, 2, 1]));
     list.clear();
-    assert_eq!(rt; (list.len(), list.free()), (0, 2));
+    same(&rt, &(list.len(), list.free()), &(0, 2));
     Ok(())
 }
 
@@ -202,15 +230,15 @@ fn an_offered_cut_is_taken_once(rt: HostRuntime) -> Result<(), Fail> {
     let mut point = Point::new(rt.alloc(), 3)?;
     let mut list = CutList::new(rt.alloc(), 2)?;
     list.offer(&point, Cut::dicycle(0, 1, 2, 3)?, 0, 2);
-    assert_eq!(rt; list.len(), 0);
+    same(&rt, &list.len(), &0);
     point.set(0, 1, Point::ONE);
     point.set(1, 2, Point::ONE);
     point.set(2, 0, Point::ONE);
     list.offer(&point, Cut::dicycle(0, 1, 2, 3)?, 0, 2);
     list.offer(&point, Cut::dicycle(0, 1, 2, 3)?, 0, 2);
-    assert_eq!(rt; list.len(), 1);
+    same(&rt, &list.len(), &1);
     list.offer(&point, Cut::dicycle(0, 1, 2, 3)?, 1, 2);
     list.offer(&point, Cut::dicycle(0, 1, 2, 3)?, 2, 2);
-    assert_eq!(rt; list.len(), 2);
+    same(&rt, &list.len(), &2);
     Ok(())
 }

@@ -1,3 +1,4 @@
+use crate::expected::same;
 use lop_cuts::{CutList, Point};
 use lop_fence::violated_fences;
 use std::test::Fail;
@@ -26,8 +27,8 @@ fn a_fence_of_three_posts(rt: HostRuntime) -> Result<(), Fail> {
         point.set(2, 5, value);
         point.set(5, 0, value);
         point.set(5, 1, value);
-        assert_eq!(rt; violated_fences(&point, limit, &mut list), wanted);
-        assert_eq!(rt; list.len(), wanted);
+        same(&rt, &violated_fences(&point, limit, &mut list), &wanted);
+        same(&rt, &list.len(), &wanted);
     }
     Ok(())
 }
@@ -36,7 +37,7 @@ fn a_fence_of_three_posts(rt: HostRuntime) -> Result<(), Fail> {
 fn one_half_everywhere(rt: HostRuntime) -> Result<(), Fail> {
     let point = Point::new(rt.alloc(), 6)?;
     let mut list = CutList::new(rt.alloc(), 9)?;
-    assert_eq!(rt; violated_fences(&point, 9, &mut list), 0);
-    assert_eq!(rt; list.len(), 0);
+    same(&rt, &violated_fences(&point, 9, &mut list), &0);
+    same(&rt, &list.len(), &0);
     Ok(())
 }

@@ -1,3 +1,4 @@
+use crate::expected::{holds, same};
 use lop_fix::lanes::or_into;
 use lop_fix::{Decision, Fixings, PathFault};
 use lop_model::Pair;
@@ -61,17 +62,17 @@ fn of_path(fixings: &mut Fixings, path: &[Pair]) -> Option<Result<(), PathFault>
 #[test]
 fn chains_of_three(rt: HostRuntime) -> Result<(), Fail> {
     let mut fixings = Fixings::new(rt.alloc(), 3)?;
-    assert_eq!(rt; fixings.n(), 3);
-    assert_eq!(rt; fixings.first_undecided(), Some(pair(0, 1)));
-    assert!(rt; add(&mut fixings, 2, 0));
-    assert_eq!(rt; fixings.first_undecided(), Some(pair(0, 1)));
-    assert!(rt; add(&mut fixings, 0, 1));
-    assert_eq!(rt; decision(&fixings, 2, 1), Some(Decision::Before));
-    assert_eq!(rt; decision(&fixings, 1, 2), Some(Decision::After));
-    assert_eq!(rt; fixings.first_undecided(), None);
-    assert!(rt; !add(&mut fixings, 1, 2));
+    same(&rt, &fixings.n(), &3);
+    same(&rt, &fixings.first_undecided(), &Some(pair(0, 1)));
+    holds(&rt, add(&mut fixings, 2, 0));
+    same(&rt, &fixings.first_undecided(), &Some(pair(0, 1)));
+    holds(&rt, add(&mut fixings, 0, 1));
+    same(&rt, &decision(&fixings, 2, 1), &Some(Decision::Before));
+    same(&rt, &decision(&fixings, 1, 2), &Some(Decision::After));
+    same(&rt, &fixings.first_undecided(), &None);
+    holds(&rt, !add(&mut fixings, 1, 2));
     fixings.clear();
-    assert_eq!(rt; decision(&fixings, 2, 0), Some(Decision::Undecided));
+    same(&rt, &decision(&fixings, 2, 0), &Some(Decision::Undecided));
     Ok(())
 }
 
@@ -80,23 +81,32 @@ fn chains_of_three(rt: HostRuntime) -> Result<(), Fail> {
 fn chains_across_words(rt: HostRuntime) -> Result<(), Fail> {
     let mut fixings = Fixings::new(rt.alloc(), 70)?;
     let path = [pair(69, 0), pair(0, 64), pair(63, 69), pair(64, 63)];
-    assert_eq!(rt;
-        of_path(&mut fixings, &path),
-        Some(Err(PathFault::Decided(3)))
+    same(
+        &rt,
+        &of_path(&mut fixings, &path),
+        &Some(Err(PathFault::Decided(3))),
     );
-    assert_eq!(rt; of_path(&mut fixings, &path[..3]), Some(Ok(())));
+    same(&rt, &of_path(&mut fixings, &path[..3]), &Some(Ok(())));
     for (a, b) in [(63, 69), (63, 0), (63, 64), (69, 0), (69, 64), (0, 64)] {
-        assert_eq!(rt; decision(&fixings, a, b), Some(Decision::Before), "{a} {b}");
-        assert_eq!(rt; decision(&fixings, b, a), Some(Decision::After), "{b} {a}");
+        same(
+            &rt,
+            &(a, b, decision(&fixings, a, b)),
+            &(a, b, Some(Decision::Before)),
+        );
+        same(
+            &rt,
+            &(b, a, decision(&fixings, b, a)),
+            &(b, a, Some(Decision::After)),
+        );
     }
     for (a, count) in [(63, 3), (69, 2), (0, 1), (64, 0), (62, 0)] {
-        assert_eq!(rt; count_after(&fixings, a), Some(count), "{a}");
+        same(&rt, &(a, count_after(&fixings, a)), &(a, Some(count)));
     }
     for (a, b) in [(62, 63), (64, 65), (1, 0), (69, 68)] {
-        assert_eq!(rt;
-            decision(&fixings, a, b),
-            Some(Decision::Undecided),
-            "{a} {b}"
+        same(
+            &rt,
+            &(a, b, decision(&fixings, a, b)),
+            &(a, b, Some(Decision::Undecided)),
         );
     }
     Ok(())
@@ -142,8 +152,8 @@ fn lanes_equal_the_plain_loop(rt: HostRuntime) -> Result<(), Fail> {
         let mut row = words(rt.alloc(), count, 0)?;
         let with = words(rt.alloc(), count, 1)?;
         let plain = plain_or(rt.alloc(), &row, &with)?;
-        assert!(rt; join(&mut row, &with), "{count}");
-        assert_eq!(rt; row, plain, "{count}");
+        holds(&rt, join(&mut row, &with));
+        same(&rt, &row, &plain);
     }
     Ok(())
 }
@@ -159,6 +169,6 @@ fn shared<X: Sync>(_value: &X) {}
 fn may_cross_threads(rt: HostRuntime) -> Result<(), Fail> {
     let fixings = Fixings::new(rt.alloc(), 1)?;
     shared(&fixings);
-    assert_eq!(rt; sent(fixings).n(), 1);
+    same(&rt, &sent(fixings).n(), &1);
     Ok(())
 }

@@ -1,6 +1,7 @@
 ghost use Rattle.std.specs.Prelude.{◌≤◌};
 ghost use Rattle.lop_cuts.specs.declared.limits.TheConstants.{MAX_SCALE};
 
+use crate::expected::{holds, same};
 use lop_cuts::Cut;
 use lop_fix::{Decision, Fixings};
 use lop_leaf::lanes::greater_of;
@@ -96,15 +97,19 @@ fn bounds_without_terms(rt: HostRuntime) -> Result<(), Fail> {
     let alloc = rt.alloc();
     let weights = three_sectors(alloc)?.expect(&rt, "weights");
     let mut fixings = Fixings::new(alloc, 3)?;
-    assert_eq!(rt; bound(alloc, &weights, &fixings)?, Some(12));
+    same(&rt, &bound(alloc, &weights, &fixings)?, &Some(12));
     add(&mut fixings, 1, 0);
-    assert_eq!(rt; bound(alloc, &weights, &fixings)?, Some(9));
+    same(&rt, &bound(alloc, &weights, &fixings)?, &Some(9));
     fixings.clear();
     add(&mut fixings, 0, 1);
     add(&mut fixings, 1, 2);
-    assert_eq!(rt; bound(alloc, &weights, &fixings)?, Some(10));
+    same(&rt, &bound(alloc, &weights, &fixings)?, &Some(10));
     for (upper, scale, down) in [(12, 1, 12), (7, 2, 3), (-7, 2, -4), (-8, 2, -4)] {
-        assert_eq!(rt; bound_of(upper, scale), down, "{upper} by {scale}");
+        same(
+            &rt,
+            &(upper, scale, bound_of(upper, scale)),
+            &(upper, scale, down),
+        );
     }
     Ok(())
 }
@@ -114,11 +119,19 @@ fn bounds_of_a_tie_of_three(rt: HostRuntime) -> Result<(), Fail> {
     let alloc = rt.alloc();
     let weights = tie_of_three(alloc)?.expect(&rt, "weights");
     let mut fixings = Fixings::new(alloc, 3)?;
-    assert_eq!(rt; bound(alloc, &weights, &fixings)?, Some(6));
-    assert_eq!(rt; bound_with_cycle(alloc, &weights, &fixings, 2)?, Some(4));
-    assert_eq!(rt; bound_with_cycle(alloc, &weights, &fixings, 1)?, Some(5));
+    same(&rt, &bound(alloc, &weights, &fixings)?, &Some(6));
+    same(
+        &rt,
+        &bound_with_cycle(alloc, &weights, &fixings, 2)?,
+        &Some(4),
+    );
+    same(
+        &rt,
+        &bound_with_cycle(alloc, &weights, &fixings, 1)?,
+        &Some(5),
+    );
     add(&mut fixings, 1, 0);
-    assert_eq!(rt; bound(alloc, &weights, &fixings)?, Some(4));
+    same(&rt, &bound(alloc, &weights, &fixings)?, &Some(4));
     Ok(())
 }
 
@@ -130,13 +143,13 @@ fn packing_bounds(rt: HostRuntime) -> Result<(), Fail> {
     let fence = three_fence(alloc)?.expect(&rt, "weights");
     let mut of_three = Fixings::new(alloc, 3)?;
     let mut of_six = Fixings::new(alloc, 6)?;
-    assert_eq!(rt; packs(alloc, &sectors, &of_three)?, Some((10, 1)));
-    assert_eq!(rt; packs(alloc, &tie, &of_three)?, Some((4, 1)));
-    assert_eq!(rt; packs(alloc, &fence, &of_six)?, Some((18, 0)));
+    same(&rt, &packs(alloc, &sectors, &of_three)?, &Some((10, 1)));
+    same(&rt, &packs(alloc, &tie, &of_three)?, &Some((4, 1)));
+    same(&rt, &packs(alloc, &fence, &of_six)?, &Some((18, 0)));
     add(&mut of_three, 1, 0);
-    assert_eq!(rt; packs(alloc, &tie, &of_three)?, Some((4, 0)));
+    same(&rt, &packs(alloc, &tie, &of_three)?, &Some((4, 0)));
     add(&mut of_six, 0, 1);
-    assert_eq!(rt; packs(alloc, &fence, &of_six)?, Some((16, 1)));
+    same(&rt, &packs(alloc, &fence, &of_six)?, &Some((16, 1)));
     Ok(())
 }
 
@@ -159,7 +172,7 @@ fn copied(alloc: Global) -> Result<Option<(u32, usize, u64)>, Fail> {
 
 #[test]
 fn records(rt: HostRuntime) -> Result<(), Fail> {
-    assert_eq!(rt; copied(rt.alloc())?, Some((3, 1, 7)));
+    same(&rt, &copied(rt.alloc())?, &Some((3, 1, 7)));
     Ok(())
 }
 
@@ -174,19 +187,25 @@ fn tickets(rt: HostRuntime) -> Result<(), Fail> {
         after: 0,
     }];
     ticket.fill(4, 11, -10, &path, &inherited);
-    assert_eq!(rt;
-        (ticket.node(), ticket.bound(), ticket.best()),
-        (4, 11, -10)
+    same(
+        &rt,
+        &(ticket.node(), ticket.bound(), ticket.best()),
+        &(4, 11, -10),
     );
-    assert_eq!(rt; ticket.path(), path.as_slice());
-    assert_eq!(rt;
-        (ticket.inherited().scale(), ticket.inherited().len()),
-        (1, 0)
+    same(&rt, &ticket.path(), &path.as_slice());
+    same(
+        &rt,
+        &(ticket.inherited().scale(), ticket.inherited().len()),
+        &(1, 0),
     );
     ticket.fill(5, 9, 8, &[], &inherited);
-    assert_eq!(rt; ticket.path().len(), 0);
+    same(&rt, &ticket.path().len(), &0);
     ticket.raise_best(12);
-    assert_eq!(rt; (ticket.node(), ticket.bound(), ticket.best()), (5, 9, 12));
+    same(
+        &rt,
+        &(ticket.node(), ticket.bound(), ticket.best()),
+        &(5, 9, 12),
+    );
     Ok(())
 }
 
@@ -201,13 +220,14 @@ fn results(rt: HostRuntime) -> Result<(), Fail> {
         after: 2,
     });
     result.put(4, 11, pair, &shown, &order, 10);
-    assert_eq!(rt;
-        (result.node(), result.bound(), result.value()),
-        (4, 11, 10)
+    same(
+        &rt,
+        &(result.node(), result.bound(), result.value()),
+        &(4, 11, 10),
     );
-    assert_eq!(rt; result.pair(), pair);
-    assert_eq!(rt; result.shown().scale(), 1);
-    assert_eq!(rt; result.order().n(), 3);
+    same(&rt, &result.pair(), &pair);
+    same(&rt, &result.shown().scale(), &1);
+    same(&rt, &result.order().n(), &3);
     Ok(())
 }
 
@@ -252,8 +272,8 @@ fn lanes_equal_the_plain_loop(rt: HostRuntime) -> Result<(), Fail> {
         let right = turns(rt.alloc(), count, 1)?;
         let mut greater = turns(rt.alloc(), count, 2)?;
         let plain = plain_greater(rt.alloc(), &left, &right)?;
-        assert!(rt; choose(&left, &right, &mut greater), "{count}");
-        assert_eq!(rt; greater, plain, "{count}");
+        holds(&rt, choose(&left, &right, &mut greater));
+        same(&rt, &greater, &plain);
     }
     Ok(())
 }
@@ -280,12 +300,16 @@ fn rounds(alloc: Global, dual: i64, shift: u32, scale: u32) -> Result<Option<u64
 fn hints_are_rounded_down(rt: HostRuntime) -> Result<(), Fail> {
     let one: i64 = 1 << 32;
     let most = 9_223_372_036_854_775_807;
-    assert_eq!(rt; rounds(rt.alloc(), one, 0, 1)?, Some(1));
-    assert_eq!(rt; rounds(rt.alloc(), one - 1, 0, 1)?, None);
-    assert_eq!(rt; rounds(rt.alloc(), 3 * one - 1, 0, 1)?, Some(2));
-    assert_eq!(rt; rounds(rt.alloc(), 3, 40, 65536)?, Some(50_331_648));
-    assert_eq!(rt; rounds(rt.alloc(), i64::MAX, 0, 1)?, Some(2_147_483_647));
-    assert_eq!(rt; rounds(rt.alloc(), i64::MAX, 40, 65536)?, Some(most));
-    assert_eq!(rt; rounds(rt.alloc(), -one, 40, 65536)?, None);
+    same(&rt, &rounds(rt.alloc(), one, 0, 1)?, &Some(1));
+    same(&rt, &(rounds(rt.alloc(), one - 1, 0, 1)?), &None);
+    same(&rt, &(rounds(rt.alloc(), 3 * one - 1, 0, 1)?), &Some(2));
+    same(&rt, &rounds(rt.alloc(), 3, 40, 65536)?, &Some(50_331_648));
+    same(
+        &rt,
+        &rounds(rt.alloc(), i64::MAX, 0, 1)?,
+        &Some(2_147_483_647),
+    );
+    same(&rt, &rounds(rt.alloc(), i64::MAX, 40, 65536)?, &Some(most));
+    same(&rt, &rounds(rt.alloc(), -one, 40, 65536)?, &None);
     Ok(())
 }

@@ -7,6 +7,8 @@ mod basis;
 #[cfg(test)]
 mod cuts;
 #[cfg(test)]
+mod expected;
+#[cfg(test)]
 mod fence;
 #[cfg(test)]
 mod fix;

@@ -1,3 +1,4 @@
+use crate::expected::{holds, same};
 use lop_cuts::{CutList, Point};
 use lop_mobius::{RingRoom, violated_ladders};
 use std::test::Fail;
@@ -24,15 +25,16 @@ fn a_ring_of_five(rt: HostRuntime) -> Result<(), Fail> {
         point.set(4, 2, value);
         point.set(0, 3, value);
         point.set(1, 4, value);
-        assert_eq!(rt; room.n(), point.n());
-        assert_eq!(rt;
-            violated_ladders(&point, limit, &mut list, &mut room),
-            wanted
+        holds(&rt, room.n() == point.n());
+        same(
+            &rt,
+            &violated_ladders(&point, limit, &mut list, &mut room),
+            &wanted,
         );
-        assert_eq!(rt; list.len(), wanted);
+        same(&rt, &list.len(), &wanted);
         if list.len() > 0 {
-            assert_eq!(rt; list.get(0).right_side(), 7);
-            assert_eq!(rt; list.get(0).arcs().len(), 10);
+            same(&rt, &list.get(0).right_side(), &7);
+            same(&rt, &list.get(0).arcs().len(), &10);
         }
     }
     Ok(())
@@ -43,7 +45,7 @@ fn one_half_everywhere(rt: HostRuntime) -> Result<(), Fail> {
     let point = Point::new(rt.alloc(), 6)?;
     let mut list = CutList::new(rt.alloc(), 9)?;
     let mut room = RingRoom::new(rt.alloc(), 6)?;
-    assert_eq!(rt; violated_ladders(&point, 9, &mut list, &mut room), 0);
-    assert_eq!(rt; list.len(), 0);
+    same(&rt, &violated_ladders(&point, 9, &mut list, &mut room), &0);
+    same(&rt, &list.len(), &0);
     Ok(())
 }

@@ -1,3 +1,4 @@
+use crate::expected::{holds, same};
 use lop_model::{Order, OrderFault, Pair, Weights, WeightsFault};
 use std::alloc::Global;
 use std::test::Fail;
@@ -20,11 +21,12 @@ fn lists_that_are_no_order(rt: HostRuntime) -> Result<(), Fail> {
         (&[0, 1, 0], OrderFault::Repeated(2)),
     ];
     for (list, fault) in cases {
-        assert_eq!(rt; order(alloc, list, 3)?.err(), Some(fault));
+        same(&rt, &order(alloc, list, 3)?.err(), &Some(fault));
     }
-    assert_eq!(rt;
-        OrderFault::OutOfRange(1).to_string(alloc)?.as_str(),
-        "OutOfRange"
+    same(
+        &rt,
+        &OrderFault::OutOfRange(1).to_string(alloc)?.as_str(),
+        &"OutOfRange",
     );
     Ok(())
 }
@@ -34,18 +36,18 @@ fn orders(rt: HostRuntime) -> Result<(), Fail> {
     let alloc = rt.alloc();
     let mut first = Order::first(alloc, 3)?;
     let turned = order(alloc, &[2, 0, 1], 3)?.expect(&rt, "an order");
-    assert_eq!(rt; first.n(), 3);
-    assert_eq!(rt; turned.n(), 3);
-    assert_eq!(rt; first.at(2), 2);
+    same(&rt, &first.n(), &3);
+    holds(&rt, turned.n() == 3);
+    same(&rt, &first.at(2), &2);
     first.copy_from(&turned);
     first.swap(0, 2);
-    assert_eq!(rt; first.at(0), 1);
-    assert_eq!(rt; first.at(1), 0);
-    assert_eq!(rt; first.at(2), 2);
+    same(&rt, &first.at(0), &1);
+    same(&rt, &first.at(1), &0);
+    same(&rt, &first.at(2), &2);
     first.reinsert(2, 0);
-    assert_eq!(rt; first.at(0), 2);
-    assert_eq!(rt; first.at(1), 1);
-    assert_eq!(rt; first.at(2), 0);
+    same(&rt, &first.at(0), &2);
+    same(&rt, &first.at(1), &1);
+    same(&rt, &first.at(2), &0);
     Ok(())
 }
 
@@ -54,17 +56,27 @@ fn entries_that_are_no_weights(rt: HostRuntime) -> Result<(), Fail> {
     let alloc = rt.alloc();
     let half: i64 = 500_000_000_000_000_000;
     let heavy = WeightsFault::TooHeavy(1_000_000_000_000_000_001);
-    assert_eq!(rt; weights(alloc, 0, &[])?.err(), Some(WeightsFault::Size));
-    assert_eq!(rt;
-        weights(alloc, 2, &[0, 1, 1])?.err(),
-        Some(WeightsFault::Size)
+    same(
+        &rt,
+        &weights(alloc, 0, &[])?.err(),
+        &Some(WeightsFault::Size),
     );
-    assert_eq!(rt;
-        weights(alloc, 2, &[0, half + 1, -half, 0])?.err(),
-        Some(heavy)
+    same(
+        &rt,
+        &weights(alloc, 2, &[0, 1, 1])?.err(),
+        &Some(WeightsFault::Size),
     );
-    assert_eq!(rt; weights(alloc, 2, &[half, half, -half, 0])?.err(), None);
-    assert_eq!(rt; heavy.to_string(alloc)?.as_str(), "TooHeavy");
+    same(
+        &rt,
+        &(weights(alloc, 2, &[0, half + 1, -half, 0])?.err()),
+        &Some(heavy),
+    );
+    same(
+        &rt,
+        &weights(alloc, 2, &[half, half, -half, 0])?.err(),
+        &None,
+    );
+    same(&rt, &heavy.to_string(alloc)?.as_str(), &"TooHeavy");
     Ok(())
 }
 
@@ -73,11 +85,11 @@ fn three_sectors(rt: HostRuntime) -> Result<(), Fail> {
     let alloc = rt.alloc();
     let sectors = weights(alloc, 3, &[0, 5, 1, 2, 0, 4, 3, 1, 0])?.expect(&rt, "weights");
     let copy = sectors.copy()?;
-    assert_eq!(rt; copy.n(), 3);
-    assert_eq!(rt; copy.at(0, 1), 5);
-    assert_eq!(rt; copy.at(1, 0), 2);
-    assert_eq!(rt; copy.margin(1, 0), -3);
-    assert_eq!(rt; copy.total(), 16);
+    holds(&rt, copy.n() == 3);
+    same(&rt, &copy.at(0, 1), &5);
+    same(&rt, &copy.at(1, 0), &2);
+    same(&rt, &copy.margin(1, 0), &-3);
+    same(&rt, &copy.total(), &16);
     Ok(())
 }
 
@@ -96,9 +108,10 @@ fn may_cross_threads(rt: HostRuntime) -> Result<(), Fail> {
     shared(&sectors);
     shared(&first);
     let pair = sent(Pair::default());
-    assert_eq!(rt;
-        (sent(sectors).n(), sent(first).n(), pair.before),
-        (1, 1, 0)
+    same(
+        &rt,
+        &(sent(sectors).n(), sent(first).n(), pair.before),
+        &(1, 1, 0),
     );
     Ok(())
 }

@@ -1,3 +1,4 @@
+use crate::expected::{holds, same};
 use lop_cuts::{CutKind, CutList, Point};
 use lop_sep3::{Found, violated_dicycles};
 use std::test::Fail;
@@ -10,7 +11,7 @@ fn the_circle_of_three(rt: HostRuntime) -> Result<(), Fail> {
         count: 0,
         more: false,
     };
-    assert_eq!(rt; violated_dicycles(&point, 4, &mut list), none);
+    same(&rt, &violated_dicycles(&point, 4, &mut list), &none);
     point.set(0, 1, Point::ONE);
     point.set(1, 2, Point::ONE);
     point.set(2, 0, Point::ONE);
@@ -18,14 +19,14 @@ fn the_circle_of_three(rt: HostRuntime) -> Result<(), Fail> {
         count: 0,
         more: true,
     };
-    assert_eq!(rt; violated_dicycles(&point, 0, &mut list), more);
+    same(&rt, &violated_dicycles(&point, 0, &mut list), &more);
     let one = Found {
         count: 1,
         more: false,
     };
-    assert_eq!(rt; violated_dicycles(&point, 1, &mut list), one);
-    assert_eq!(rt; list.len(), 1);
-    assert_eq!(rt; list.get(0).kind(), &CutKind::Dicycle([0, 1, 2]));
+    same(&rt, &violated_dicycles(&point, 1, &mut list), &one);
+    holds(&rt, list.len() == 1);
+    same(&rt, list.get(0).kind(), &CutKind::Dicycle([0, 1, 2]));
     Ok(())
 }
 
@@ -41,10 +42,10 @@ fn the_first_in_lexicographic_order(rt: HostRuntime) -> Result<(), Fail> {
     point.set(0, 1, 0);
     point.set(2, 3, Point::ONE);
     let found = violated_dicycles(&point, 3, &mut list);
-    assert_eq!(rt; found.count, 2);
-    assert!(rt; !found.more);
-    assert_eq!(rt; list.len(), 2);
-    assert_eq!(rt; list.get(0).kind(), &CutKind::Dicycle([0, 2, 1]));
-    assert_eq!(rt; list.get(1).kind(), &CutKind::Dicycle([0, 2, 3]));
+    same(&rt, &found.count, &2);
+    holds(&rt, !found.more);
+    holds(&rt, list.len() == 2);
+    same(&rt, list.get(0).kind(), &CutKind::Dicycle([0, 2, 1]));
+    same(&rt, list.get(1).kind(), &CutKind::Dicycle([0, 2, 3]));
     Ok(())
 }

@@ -1,3 +1,4 @@
+use crate::expected::same;
 use lop_cuts::Cut;
 use lop_fix::Fixings;
 use lop_model::Weights;
@@ -14,21 +15,22 @@ fn three_sectors(rt: HostRuntime) -> Result<(), Fail> {
     let mut lp = LpRoom::new(rt.alloc(), 3)?;
     if weights.n() == lp.n() && fixings.n() == lp.n() {
         lp.load(&weights, &fixings);
-        assert_eq!(rt; lp.run(10), LpStop::Settled);
-        assert_eq!(rt; lp.run(0), LpStop::Pivots(0));
-        assert_eq!(rt; lp.add_row(&cut), RowReply::Added);
-        assert_eq!(rt; lp.add_row(&cut), RowReply::Present);
-        assert_eq!(rt; lp.run(10), LpStop::Settled);
-        assert_eq!(rt; (lp.shift(), lp.done(), lp.refused()), (0, 1, 0));
-        assert_eq!(rt; lp.duals(), [8_589_934_592].as_slice());
+        same(&rt, &lp.run(10), &LpStop::Settled);
+        same(&rt, &lp.run(0), &LpStop::Pivots(0));
+        same(&rt, &lp.add_row(&cut), &RowReply::Added);
+        same(&rt, &lp.add_row(&cut), &RowReply::Present);
+        same(&rt, &lp.run(10), &LpStop::Settled);
+        same(&rt, &(lp.shift(), lp.done(), lp.refused()), &(0, 1, 0));
+        same(&rt, &lp.duals(), &[8_589_934_592].as_slice());
         let point = lp.point();
         if point.n() == 3 {
-            assert_eq!(rt;
-                (point.at(0, 1), point.at(1, 2), point.at(2, 0)),
-                (4_294_967_296, 4_294_967_296, 0)
+            same(
+                &rt,
+                &(point.at(0, 1), point.at(1, 2), point.at(2, 0)),
+                &(4_294_967_296, 4_294_967_296, 0),
             );
         }
-        assert_eq!(rt; (lp.drop_slack_rows(), lp.rows().len()), (0, 1));
+        same(&rt, &(lp.drop_slack_rows(), lp.rows().len()), &(0, 1));
     }
     Ok(())
 }

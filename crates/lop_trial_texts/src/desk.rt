@@ -3,6 +3,7 @@ ghost use Rattle.std.specs.Prelude.{◌≡◌, ◌≤◌, ◌^◌, IfOk, OnOk, I
 ghost use Rattle.lop_desk.specs.Desk.{IsOpen};
 ghost use Rattle.std.specs.Prelude.{Some};
 
+use crate::expected::{holds, holds_at, same, same_at};
 use lop_desk::{
     Desk, Line, LineReader, LineStop, MemoryDesk, NamedBytes, OpenFault, ReadStop, TextRoom,
     is_whole, plain_number, print_all, read_whole, whole_number, write_all,
@@ -24,10 +25,20 @@ fn desk(
     MemoryDesk::new(alloc, files, failing.to_vec(alloc)?, room)
 }
 
-// `count` copies of the byte at the end.
-fn extend(bytes: &mut Vec<u8>, byte: u8, count: usize) -> Result<(), AllocError> {
-    let more = bytes.len().saturating_add(count);
-    bytes.resize(more, byte)
+// Bytes of which each stands so many times.
+fn bytes_of(alloc: Global, runs: &[(u8, usize)]) -> Result<Vec<u8>, AllocError> {
+    let mut bytes = Vec::new(alloc);
+    for (byte, count) in runs {
+        let more = bytes.len().saturating_add(*count);
+        bytes.resize(more, *byte)?;
+    }
+    Ok(bytes)
+}
+
+// A desk with one file `a` of such bytes.
+fn desk_of(alloc: Global, runs: &[(u8, usize)], failing: &[u64]) -> Result<MemoryDesk, AllocError> {
+    let bytes = bytes_of(alloc, runs)?;
+    desk(alloc, &bytes, failing, 0)
 }
 
 // How many bytes a file has, by reading it whole.
@@ -55,6 +66,24 @@ fn line(reader: &mut LineReader, memory: &mut MemoryDesk) -> Result<Option<(usiz
     }
 }
 
+// The next line has this length, and an LF ended it or didn't.
+fn reads_line(
+    rt: &impl Abort,
+    reader: &mut LineReader,
+    memory: &mut MemoryDesk,
+    expected: Option<(usize, bool)>,
+)
+    requires opened { IsOpen (Some memory.old.world) }
+    requires limit { reader.old.count ≤ 2 ^ 40 }
+    ensures opened { IsOpen (Some memory.new.world) }
+    ensures limit { reader.new.count ≤ 2 ^ 40 }
+{
+    match line(reader, memory) {
+        Ok(found) => same(rt, &found, &expected),
+        Err(_) => holds_at(rt, false, "a stop"),
+    }
+}
+
 const WHOLE: &[(&str, Option<i128>)] = &[
     ("+5", Some(5)),
     ("-0", Some(0)),
@@ -73,7 +102,7 @@ const WHOLE: &[(&str, Option<i128>)] = &[
 ];
 
 fn reads_whole(rt: &impl Abort, word: &str, value: Option<i128>) {
-    assert_eq!(rt; whole_number(word.as_bytes()), value, "at {word}");
+    same_at(rt, &whole_number(word.as_bytes()), &value, word);
 }
 
 #[test]
@@ -102,86 +131,98 @@ const PLAIN: &[(&str, Option<u64>)] = &[
 ];
 
 fn reads_plain(rt: &impl Abort, word: &str, value: Option<u64>) {
-    assert_eq!(rt; plain_number(word.as_bytes()), value, "at {word}");
+    same_at(rt, &plain_number(word.as_bytes()), &value, word);
 }
 
 #[test]
 fn spelled_and_plain_numbers(rt: HostRuntime) {
     for (word, answer) in SPELLED {
-        assert!(rt; is_whole(word.as_bytes()) == *answer, "at {word}");
+        holds_at(&rt, is_whole(word.as_bytes()) == *answer, word);
     }
     for (word, value) in PLAIN {
         reads_plain(&rt, word, *value);
     }
 }
 
+// Whether the line that was read has this byte alone.
+fn is_all(reader: &LineReader, byte: u8) -> bool {
+    reader.text().iter().all(|there| *there == byte)
+}
+
+/// The first read cuts the second line.
+const TWO_LINES: &[(u8, usize)] = &[(b'x', 100_000), (b'\n', 1), (b'y', 100_000), (b'\n', 1)];
+
 #[test]
-fn lines(rt: HostRuntime) -> Result<(), Fail> {
+fn lines_that_reads_cut(rt: HostRuntime) -> Result<(), Fail> {
     let alloc = rt.alloc();
-    let mut bytes = Vec::new(alloc);
-    // The second line is cut by the first read.
-    extend(&mut bytes, b'x', 100_000)?;
-    extend(&mut bytes, b'\n', 1)?;
-    extend(&mut bytes, b'y', 100_000)?;
-    extend(&mut bytes, b'\n', 2)?;
-    // The longest line, and a last piece.
-    extend(&mut bytes, b'z', 131_072)?;
-    extend(&mut bytes, b'\n', 1)?;
-    extend(&mut bytes, b'e', 3)?;
-    let mut memory = desk(alloc, &bytes, &[], 0)?;
+    let mut memory = desk_of(alloc, TWO_LINES, &[])?;
     let mut reader = LineReader::new(alloc)?;
-    assert!(rt; memory.open_file("a").is_ok());
-    assert_eq!(rt; line(&mut reader, &mut memory), Ok(Some((100_000, true))));
-    assert!(rt; reader.text().iter().all(|byte| *byte == b'x'));
-    assert_eq!(rt; line(&mut reader, &mut memory), Ok(Some((100_000, true))));
-    assert!(rt; reader.text().iter().all(|byte| *byte == b'y'));
-    assert_eq!(rt; line(&mut reader, &mut memory), Ok(Some((0, true))));
-    assert_eq!(rt; line(&mut reader, &mut memory), Ok(Some((131_072, true))));
-    assert_eq!(rt; line(&mut reader, &mut memory), Ok(Some((3, false))));
-    assert_eq!(rt; reader.text(), b"eee".as_slice());
-    assert_eq!(rt; line(&mut reader, &mut memory), Ok(None));
-    assert_eq!(rt; line(&mut reader, &mut memory), Ok(None));
+    holds(&rt, memory.open_file("a").is_ok());
+    reads_line(&rt, &mut reader, &mut memory, Some((100_000, true)));
+    holds(&rt, is_all(&reader, b'x'));
+    reads_line(&rt, &mut reader, &mut memory, Some((100_000, true)));
+    holds(&rt, is_all(&reader, b'y'));
+    Ok(())
+}
+
+/// An empty line, the longest one, and a last piece.
+const LAST_LINES: &[(u8, usize)] = &[(b'\n', 1), (b'z', 131_072), (b'\n', 1), (b'e', 3)];
+
+#[test]
+fn the_longest_line_and_a_last_piece(rt: HostRuntime) -> Result<(), Fail> {
+    let alloc = rt.alloc();
+    let mut memory = desk_of(alloc, LAST_LINES, &[])?;
+    let mut reader = LineReader::new(alloc)?;
+    holds(&rt, memory.open_file("a").is_ok());
+    reads_line(&rt, &mut reader, &mut memory, Some((0, true)));
+    reads_line(&rt, &mut reader, &mut memory, Some((131_072, true)));
+    reads_line(&rt, &mut reader, &mut memory, Some((3, false)));
+    holds(&rt, is_all(&reader, b'e'));
+    reads_line(&rt, &mut reader, &mut memory, None);
+    reads_line(&rt, &mut reader, &mut memory, None);
     Ok(())
 }
 
 #[test]
 fn stopped_lines(rt: HostRuntime) -> Result<(), Fail> {
     let alloc = rt.alloc();
-    let mut bytes = Vec::new(alloc);
-    extend(&mut bytes, b'z', 131_073)?;
-    extend(&mut bytes, b'\n', 1)?;
-    let mut memory = desk(alloc, &bytes, &[5], 0)?;
+    let mut memory = desk_of(alloc, &[(b'z', 131_073), (b'\n', 1)], &[5])?;
     let mut reader = LineReader::new(alloc)?;
-    assert!(rt; memory.open_file("a").is_ok());
-    assert_eq!(rt; line(&mut reader, &mut memory), Err(LineStop::LineTooLong));
+    holds(&rt, memory.open_file("a").is_ok());
+    same(
+        &rt,
+        &line(&mut reader, &mut memory),
+        &Err(LineStop::LineTooLong),
+    );
     reader.start();
-    assert!(rt; memory.open_file("a").is_ok());
-    assert_eq!(rt; line(&mut reader, &mut memory), Err(LineStop::Failed));
-    assert_eq!(rt; memory.faults(), 1);
+    holds(&rt, memory.open_file("a").is_ok());
+    same(&rt, &line(&mut reader, &mut memory), &Err(LineStop::Failed));
+    same(&rt, &memory.faults(), &1);
+    Ok(())
+}
+
+// It takes two reads of 65,536 bytes, and one that gives none. So call 5 is the next one.
+fn is_whole_file(rt: &impl Abort, alloc: Global, count: usize, less: usize) -> Result<(), Fail> {
+    let mut memory = desk_of(alloc, &[(b'x', count)], &[5])?;
+    same(rt, &read_length(alloc, &mut memory, "a", count), &Ok(count));
+    holds(rt, matches!(memory.open_file("a"), Err(OpenFault::Failed)));
+    let stopped = (
+        read_length(alloc, &mut memory, "a", less),
+        read_length(alloc, &mut memory, "b", 9),
+        memory.faults(),
+    );
+    same(
+        rt,
+        &stopped,
+        &(Err(ReadStop::TooLong), Err(ReadStop::Failed), 1),
+    );
     Ok(())
 }
 
 #[test]
 fn whole_files(rt: HostRuntime) -> Result<(), Fail> {
-    let alloc = rt.alloc();
-    // Each takes two reads of 65,536 bytes, and one that gives none. So call 5 is the next one.
-    for (count, less) in [(65_537, 65_536), (131_072, 131_071)] {
-        let mut bytes = Vec::new(alloc);
-        extend(&mut bytes, b'x', count)?;
-        let mut memory = desk(alloc, &bytes, &[5], 0)?;
-        assert_eq!(rt; read_length(alloc, &mut memory, "a", count), Ok(count));
-        assert!(rt; matches!(memory.open_file("a"), Err(OpenFault::Failed)));
-        assert_eq!(rt;
-            read_length(alloc, &mut memory, "a", less),
-            Err(ReadStop::TooLong)
-        );
-        assert_eq!(rt;
-            read_length(alloc, &mut memory, "b", 9),
-            Err(ReadStop::Failed)
-        );
-        assert_eq!(rt; memory.faults(), 1);
-    }
-    Ok(())
+    is_whole_file(&rt, rt.alloc(), 65_537, 65_536)?;
+    is_whole_file(&rt, rt.alloc(), 131_072, 131_071)
 }
 
 #[test]
@@ -190,48 +231,67 @@ fn steps(rt: HostRuntime) -> Result<(), Fail> {
     let mut memory = desk(alloc, b"old", &[8], 2)?;
     memory.set_step(1);
     // Three reads of a byte, and one that gives none; then two prints.
-    assert_eq!(rt; read_length(alloc, &mut memory, "a", 3), Ok(3));
-    assert!(rt; print_all(&mut memory, b"xy").is_ok());
-    assert!(rt; memory.create("b").is_err());
-    assert!(rt; memory.create("b").is_ok());
-    assert!(rt; memory.write(b"xy") == Ok(1));
-    assert_eq!(rt; memory.printed(), b"xy".as_slice());
+    same(&rt, &read_length(alloc, &mut memory, "a", 3), &Ok(3));
+    holds(&rt, print_all(&mut memory, b"xy").is_ok());
+    holds(&rt, memory.create("b").is_err());
+    holds(&rt, memory.create("b").is_ok());
+    holds(&rt, memory.write(b"xy") == Ok(1));
+    same(&rt, &memory.printed(), &"xy".as_bytes());
+    Ok(())
+}
+
+// A file is there once it is finished.
+#[test]
+fn made_files(rt: HostRuntime) -> Result<(), Fail> {
+    let mut memory = desk(rt.alloc(), b"old", &[], 6)?;
+    holds(&rt, memory.create("b").is_ok());
+    holds(&rt, write_all(&mut memory, b"12").is_ok());
+    same(&rt, &memory.file("b"), &None);
+    holds(&rt, memory.finish().is_ok());
+    let files = (memory.file("a"), memory.file("b"));
+    same(
+        &rt,
+        &files,
+        &(Some("old".as_bytes()), Some("12".as_bytes())),
+    );
+    Ok(())
+}
+
+// The second call fails, and of seven bytes there is room for six.
+#[test]
+fn writes_that_fail(rt: HostRuntime) -> Result<(), Fail> {
+    let mut memory = desk(rt.alloc(), b"old", &[2], 6)?;
+    holds(&rt, memory.create("a").is_ok());
+    holds(&rt, write_all(&mut memory, b"3").is_err());
+    holds(&rt, memory.write(b"1234567") == Ok(6));
+    holds(&rt, memory.write(b"8").is_err());
+    same(&rt, &memory.faults(), &2);
+    holds(&rt, memory.finish().is_ok());
+    same(&rt, &memory.file("a"), &Some("123456".as_bytes()));
     Ok(())
 }
 
 #[test]
-fn made_files(rt: HostRuntime) -> Result<(), Fail> {
-    let alloc = rt.alloc();
-    let mut memory = desk(alloc, b"old", &[5], 6)?;
-    assert!(rt; memory.create("b").is_ok());
-    assert!(rt; write_all(&mut memory, b"12").is_ok());
-    assert_eq!(rt; memory.file("b"), None);
-    assert!(rt; memory.finish().is_ok());
-    assert_eq!(rt; memory.file("b"), Some(b"12".as_slice()));
-    assert_eq!(rt; memory.file("a"), Some(b"old".as_slice()));
-    assert!(rt; memory.create("a").is_ok());
-    assert!(rt; write_all(&mut memory, b"3").is_err());
-    assert!(rt; memory.write(b"1234567") == Ok(6));
-    assert!(rt; memory.write(b"8").is_err());
-    assert_eq!(rt; memory.faults(), 2);
-    assert!(rt; memory.finish().is_ok());
-    assert_eq!(rt; memory.file("a"), Some(b"123456".as_slice()));
+fn a_text_room(rt: HostRuntime) -> Result<(), Fail> {
+    let mut text = TextRoom::new(rt.alloc())?;
+    text.put(b"ab");
+    text.put(b"c\n");
+    same(&rt, &text.bytes(), &"abc\n".as_bytes());
+    text.clear();
+    same(&rt, &text.bytes(), &"".as_bytes());
     Ok(())
 }
 
 #[test]
 fn printed_text(rt: HostRuntime) -> Result<(), Fail> {
-    let alloc = rt.alloc();
-    let mut memory = desk(alloc, b"", &[], 6)?;
-    let mut text = TextRoom::new(alloc)?;
-    text.put(b"ab");
-    text.put(b"c\n");
-    assert!(rt; print_all(&mut memory, text.bytes()).is_ok());
-    assert!(rt; print_all(&mut memory, text.bytes()).is_err());
-    assert_eq!(rt; memory.printed(), b"abc\nab".as_slice());
-    assert_eq!(rt; memory.faults(), 1);
-    text.clear();
-    assert_eq!(rt; text.bytes(), b"".as_slice());
-    assert!(rt; matches!(memory.open_file("b"), Err(OpenFault::Missing)));
+    let mut memory = desk(rt.alloc(), b"", &[], 6)?;
+    holds(&rt, print_all(&mut memory, b"abc\n").is_ok());
+    holds(&rt, print_all(&mut memory, b"abc\n").is_err());
+    let told = (memory.printed(), memory.faults());
+    same(&rt, &told, &("abc\nab".as_bytes(), 1));
+    holds(
+        &rt,
+        matches!(memory.open_file("b"), Err(OpenFault::Missing)),
+    );
     Ok(())
 }

@@ -5,6 +5,10 @@
 #[cfg(test)]
 mod desk;
 #[cfg(test)]
+mod entries;
+#[cfg(test)]
+mod expected;
+#[cfg(test)]
 mod generated;
 #[cfg(test)]
 mod lolib;

@@ -1,24 +1,14 @@
 // Texts that are read, and texts that are refused.
+use crate::entries::has_entries;
+use crate::expected::same_at;
 use lop_lolib::LolibRefusal::{
     BadEntry, BadSize, Empty, Short, SizeRange, TooFine, TooHeavy, TooWide,
 };
 use lop_lolib::OrderRefusal::{BadWord, Length, OutOfRange, Repeated};
 use lop_lolib::{LolibRefusal, NumberWord, OrderRefusal, number_word, read_lolib, read_order};
-use lop_model::Weights;
-use std::alloc::{AllocError, Global};
+use std::alloc::Global;
 use std::process::Abort;
 use std::test::Fail;
-
-// The entries, row by row.
-fn entries_of(alloc: Global, weights: &Weights) -> Result<Vec<i64>, AllocError> {
-    let mut entries = Vec::new(alloc);
-    for a in 0..weights.n() {
-        for b in 0..weights.n() {
-            entries.push(weights.at(a, b))?;
-        }
-    }
-    Ok(entries)
-}
 
 fn reads_whole(
     rt: &impl Abort,
@@ -30,19 +20,18 @@ fn reads_whole(
     decimals: u8,
 ) -> Result<(), Fail> {
     let file = read_lolib(alloc, text.as_bytes())?;
-    let found = entries_of(alloc, &file.weights)?;
-    assert_eq!(rt; found.as_slice(), entries, "at {text:?}");
-    assert_eq!(rt; file.title.bytes(), title.as_bytes(), "at {text:?}");
-    assert_eq!(rt; file.tail_words, tail_words, "at {text:?}");
-    assert_eq!(rt; file.decimals, decimals, "at {text:?}");
-    Ok(())
+    let about = (file.title.bytes(), file.tail_words, file.decimals);
+    same_at(rt, &about, &(title.as_bytes(), tail_words, decimals), text);
+    has_entries(rt, alloc, &file.weights, entries, text)
 }
 
 fn refuses(rt: &impl Abort, alloc: Global, text: &str, expected: LolibRefusal) {
-    match read_lolib(alloc, text.as_bytes()) {
-        Ok(_) => assert!(rt; false, "read {text:?}"),
-        Err(refusal) => assert_eq!(rt; refusal, expected, "at {text:?}"),
-    }
+    same_at(
+        rt,
+        &read_lolib(alloc, text.as_bytes()).err(),
+        &Some(expected),
+        text,
+    );
 }
 
 const WIDE: i64 = 1_000_000_000_000_000_000;
@@ -182,7 +171,7 @@ const WORDS: &[(&str, NumberWord)] = &[
 #[test]
 fn words_are_numbers(rt: HostRuntime) {
     for (word, expected) in WORDS {
-        assert_eq!(&rt; number_word(word.as_bytes()), *expected, "at {word:?}");
+        same_at(&rt, &number_word(word.as_bytes()), expected, word);
     }
 }
 
@@ -247,15 +236,17 @@ fn reads_order(
     for place in 0..order.n() {
         found.push(order.at(place))?;
     }
-    assert_eq!(rt; found.as_slice(), objects, "at {text:?}");
+    same_at(rt, &found.as_slice(), &objects, text);
     Ok(())
 }
 
 fn refuses_order(rt: &impl Abort, alloc: Global, text: &str, expected: OrderRefusal) {
-    match read_order(alloc, text.as_bytes(), 3) {
-        Ok(_) => assert!(rt; false, "read {text:?}"),
-        Err(refusal) => assert_eq!(rt; refusal, expected, "at {text:?}"),
-    }
+    same_at(
+        rt,
+        &read_order(alloc, text.as_bytes(), 3).err(),
+        &Some(expected),
+        text,
+    );
 }
 
 const NO_ORDERS: &[(&str, OrderRefusal)] = &[

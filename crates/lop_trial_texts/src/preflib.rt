@@ -1,5 +1,6 @@
 // Texts that are read, and texts that are refused.
-use lop_preflib::{PrefRefusal, read_preflib};
+use crate::expected::{holds, same, same_at};
+use lop_preflib::{PrefRefusal, Profile, read_preflib};
 use lop_profile::pair_weights;
 use std::alloc::Global;
 use std::process::Abort;
@@ -8,8 +9,29 @@ use std::test::Fail;
 // A count, ranked objects, and the group number of each.
 type Held<'a> = (u64, &'a [u16], &'a [u16]);
 
-// The text holds these names and orders.
-fn holds(
+// The profile has these names.
+fn has_names(rt: &impl Abort, profile: &Profile, names: &[&[u8]]) {
+    holds(rt, profile.n() as usize == names.len());
+    for (object, name) in names.iter().enumerate() {
+        same(rt, &profile.name(object as u16), name);
+    }
+}
+
+// The profile has these orders.
+fn has_orders(rt: &impl Abort, profile: &Profile, orders: &[Held<'_>]) {
+    holds(rt, profile.orders() == orders.len());
+    for (index, order) in orders.iter().enumerate() {
+        let found = (
+            profile.count(index),
+            profile.ranked(index),
+            profile.group_of(index),
+        );
+        same(rt, &found, order);
+    }
+}
+
+// The text has these names and orders.
+fn reads(
     rt: &impl Abort,
     alloc: Global,
     text: &[u8],
@@ -17,16 +39,8 @@ fn holds(
     orders: &[Held<'_>],
 ) -> Result<(), Fail> {
     let profile = read_preflib(alloc, text)?;
-    assert_eq!(rt; profile.n() as usize, names.len());
-    for (object, name) in names.iter().enumerate() {
-        assert_eq!(rt; profile.name(object as u16), *name);
-    }
-    assert_eq!(rt; profile.orders(), orders.len());
-    for (index, order) in orders.iter().enumerate() {
-        assert_eq!(rt; profile.count(index), order.0);
-        assert_eq!(rt; profile.ranked(index), order.1);
-        assert_eq!(rt; profile.group_of(index), order.2);
-    }
+    has_names(rt, &profile, names);
+    has_orders(rt, &profile, orders);
     Ok(())
 }
 
@@ -40,7 +54,7 @@ fn a_lunch_profile(rt: HostRuntime) -> Result<(), Fail> {
         (3, &[1, 2, 0], &[0, 1, 2]),
         (2, &[2, 0, 1], &[0, 1, 2]),
     ];
-    holds(&rt, rt.alloc(), text, &names, &orders)
+    reads(&rt, rt.alloc(), text, &names, &orders)
 }
 
 // The first line of a number counts, also an empty name and wherever it stands. Others are left out.
@@ -49,9 +63,9 @@ fn names_kept(rt: HostRuntime) -> Result<(), Fail> {
     let text =
         b"#ALTERNATIVE NAME 02:\t \xff\x00: b \t\n#  NUMBER ALTERNATIVES:2\n#ALTERNATIVE NAME 1:\n1:2\n# ALTERNATIVE NAME 1: late\n# ALTERNATIVE NAME 2: late\n# ALTERNATIVE NAME 3: far\n# ALTERNATIVE NAME  1: no\n # \n";
     let refused = read_preflib(rt.alloc(), text).err();
-    assert_eq!(rt; refused, Some(PrefRefusal::BadLine(9)));
+    same(&rt, &refused, &Some(PrefRefusal::BadLine(9)));
     let names: [&[u8]; 2] = [b"", b"\xff\x00: b"];
-    holds(
+    reads(
         &rt,
         rt.alloc(),
         &text[..text.len() - 4],
@@ -66,7 +80,7 @@ fn loose_lines(rt: HostRuntime) -> Result<(), Fail> {
     let text =
         b"\r\n \t\n# NUMBER ALTERNATIVES: 002 \r\n# NUMBER ALTERNATIVES: x\n\t 1000000000000000000 \t: 2\t, 01 \r";
     let names: [&[u8]; 2] = [b"", b""];
-    holds(
+    reads(
         &rt,
         rt.alloc(),
         text,
@@ -81,7 +95,7 @@ fn ties(rt: HostRuntime) -> Result<(), Fail> {
     let text =
         b"# NUMBER ALTERNATIVES: 4\n1: 1,{2,3}\n2:{1}\n3: {4,3,2,1}\n4: 2 ,{ 1 , 4\t} , 3 \r\n5: { {\n";
     let refused = read_preflib(rt.alloc(), text).err();
-    assert_eq!(rt; refused, Some(PrefRefusal::Ties(6)));
+    same(&rt, &refused, &Some(PrefRefusal::Ties(6)));
     let names: [&[u8]; 4] = [b""; 4];
     let orders: [Held<'_>; 4] = [
         (1, &[0, 1, 2], &[0, 1, 1]),
@@ -89,17 +103,17 @@ fn ties(rt: HostRuntime) -> Result<(), Fail> {
         (3, &[3, 2, 1, 0], &[0, 0, 0, 0]),
         (4, &[1, 0, 3, 2], &[0, 1, 1, 2]),
     ];
-    holds(&rt, rt.alloc(), &text[..text.len() - 7], &names, &orders)
+    reads(&rt, rt.alloc(), &text[..text.len() - 7], &names, &orders)
 }
 
 // The weights of the profile of four objects that the text holds.
 fn weighs(rt: &impl Abort, alloc: Global, text: &str, entries: [[i64; 4]; 4]) -> Result<(), Fail> {
     let profile = read_preflib(alloc, text.as_bytes())?;
     let weights = pair_weights(alloc, &profile)?;
-    assert_eq!(rt; weights.n(), 4);
+    holds(rt, weights.n() == 4);
     for (i, row) in entries.iter().enumerate() {
         for (j, entry) in row.iter().enumerate() {
-            assert_eq!(rt; weights.at(i as u16, j as u16), *entry, "at {i} {j}");
+            same(rt, &(i, j, weights.at(i as u16, j as u16)), &(i, j, *entry));
         }
     }
     Ok(())
@@ -124,10 +138,11 @@ fn ties_weighed(rt: HostRuntime) -> Result<(), Fail> {
 }
 
 fn is_refused(rt: &impl Abort, alloc: Global, text: &str, refusal: PrefRefusal) {
-    assert_eq!(rt;
-        read_preflib(alloc, text.as_bytes()).err(),
-        Some(refusal),
-        "at {text:?}"
+    same_at(
+        rt,
+        &read_preflib(alloc, text.as_bytes()).err(),
+        &Some(refusal),
+        text,
     );
 }
 

@@ -3,6 +3,7 @@ ghost use Rattle.std.specs.Prelude.{◌≡◌, ◌≤◌, ◌^◌, unsigned_abs,
 ghost use Rattle.std.specs.Option.{option_copied};
 ghost use Rattle.lop_report.specs.declared.decimal.TheConstants.{MAX_DECIMALS};
 
+use crate::expected::{holds, same};
 use lop_desk::{MemoryDesk, TextRoom};
 use lop_model::{Order, Weights};
 use lop_preflib::{Profile, read_preflib};
@@ -43,11 +44,11 @@ fn solves(
     requires decimals { answer.now.decimals ≤ MAX_DECIMALS }
 {
     let order = Order::first(alloc, 3)?;
-    assert_eq!(rt; (weights.n(), order.n()), (3, 3));
+    holds(rt, weights.n() == 3 && order.n() == 3);
     let mut desk = desk(alloc)?;
     let mut room = TextRoom::new(alloc)?;
     print_answer(answer, &order, weights, profile, &mut desk, &mut room)?;
-    assert_eq!(rt; desk.printed(), text.as_bytes());
+    same(rt, &desk.printed(), &text.as_bytes());
     Ok(())
 }
 
@@ -64,7 +65,7 @@ fn solves_profile(
 {
     let profile = read_preflib(alloc, bytes.as_bytes())?;
     let weights = pair_weights(alloc, &profile)?;
-    assert_eq!(rt; profile.n(), 3);
+    holds(rt, profile.n() == 3);
     solves(rt, alloc, answer, &weights, Some(&profile), text)
 }
 
@@ -137,7 +138,7 @@ fn weighs(
     let mut desk = desk(alloc)?;
     let mut room = TextRoom::new(alloc)?;
     print_value(value, decimals, weights, profile, &mut desk, &mut room)?;
-    assert_eq!(rt; desk.printed(), text.as_bytes());
+    same(rt, &desk.printed(), &text.as_bytes());
     Ok(())
 }
 
@@ -183,7 +184,7 @@ fn generated(rt: HostRuntime) -> Result<(), Fail> {
     let mut desk = desk(alloc)?;
     print_generated(7, &answer, &sectors(alloc)?, &mut desk, &mut room)?;
     let text = "seed 7\nobjects 3\nvalue 9\nbound 10\nstatus spent\nnodes 1\ntotal 16\n";
-    assert_eq!(rt; desk.printed(), text.as_bytes());
+    same(&rt, &desk.printed(), &text.as_bytes());
     Ok(())
 }
 
@@ -196,7 +197,7 @@ fn accepted(rt: HostRuntime) -> Result<(), Fail> {
     print_accepted(-4, 6, 1, &mut desk, &mut room)?;
     let text =
         "accepted\nvalue 4\nbound 4\nstatus optimal\naccepted\nvalue -0.4\nbound 0.6\nstatus bounded\n";
-    assert_eq!(rt; desk.printed(), text.as_bytes());
+    same(&rt, &desk.printed(), &text.as_bytes());
     Ok(())
 }
 
@@ -219,8 +220,8 @@ const DECIMALS: &[(i128, u8, &str)] = &[
 #[test]
 fn decimals(rt: HostRuntime) -> Result<(), Fail> {
     for (value, decimals, text) in DECIMALS {
-        assert!(rt; *decimals <= MAX_DECIMALS);
-        assert_eq!(rt; decimal_text(*value, *decimals).as_str(), *text);
+        holds(&rt, *decimals <= MAX_DECIMALS);
+        same(&rt, &decimal_text(*value, *decimals).as_str(), text);
     }
     Ok(())
 }

@@ -1,4 +1,5 @@
 // Words that are commands, and words that are none.
+use crate::expected::{same, same_at};
 use clap::{Arg, ArgMatches};
 use lop_words::{Command, Format, WordsFault, read_words};
 use std::alloc::{AllocError, Global};
@@ -56,18 +57,16 @@ fn shown(alloc: Global, command: &Command) -> Result<String, AllocError> {
 fn reads(rt: &impl Abort, alloc: Global, words: &[&str], expected: &str) -> Result<(), Fail> {
     let words = owned(alloc, words)?;
     match read_words(alloc, &words) {
-        Ok(command) => assert_eq!(rt; shown(alloc, &command)?.as_str(), expected),
-        Err(fault) => assert!(rt; false, "{fault:?} for {expected}"),
+        Ok(command) => same(rt, &shown(alloc, &command)?.as_str(), &expected),
+        Err(fault) => same_at(rt, &Some(fault), &None, expected),
     }
     Ok(())
 }
 
 fn refuses(rt: &impl Abort, alloc: Global, words: &[&str]) -> Result<(), Fail> {
     let owned = owned(alloc, words)?;
-    match read_words(alloc, &owned) {
-        Ok(_) => assert!(rt; false, "read {words:?}"),
-        Err(fault) => assert_eq!(rt; fault, WordsFault::Usage, "for {words:?}"),
-    }
+    let fault = read_words(alloc, &owned).err();
+    same(rt, &(words, fault), &(words, Some(WordsFault::Usage)));
     Ok(())
 }
 

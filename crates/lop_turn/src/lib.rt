@@ -8,7 +8,5 @@
 mod crossing;
 pub mod kept;
 mod rule;
-#[cfg(test)]
-mod tests;
 pub mod turn;
 pub mod view;

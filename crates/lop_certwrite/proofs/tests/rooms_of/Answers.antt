@@ -1,7 +1,0 @@
-use Rattle.std.proofs.Common.{length, ◌∙◌, ap}
-use Rattle.std.proofs.lemmas.List.FromFn.{length-range_with_len}
-use Rattle.lop_leaf.specs.Evaluated.{EvaluatedFields}
-use Rattle.lop_certwrite.proofs.tests.rooms_of.Goals as goal
-
-pub returns-clause-into : goal.returns-clause-into
-returns-clause-into c = ap (λ (e : EvaluatedFields). length e.order) c.in_ok-new-5.ensures ∙ length-range_with_len 0 c.args.n

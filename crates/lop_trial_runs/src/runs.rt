@@ -214,40 +214,18 @@ fn matrices(rt: HostRuntime) -> Result<(), Fail> {
 }
 
 const FENCE_SOLVED: &str =
-    "objects 6\norder 4 5 3 6 1 2\nvalue 14\nbound 14\nstatus optimal\nnodes ";
+    "objects 6\norder 4 5 3 6 1 2\nvalue 14\nbound 14\nstatus optimal\nnodes 1\ntotal 18\nlinearity 0.7777\n";
 
-const FENCE_END: &str = "\ntotal 18\nlinearity 0.7777\n";
-
-/// Whether the printed lines are those of the fence, with one digit for the nodes that is at most 5.
-fn closes_fence(printed: &[u8]) -> bool {
-    printed.starts_with(FENCE_SOLVED.as_bytes())
-        && printed.ends_with(FENCE_END.as_bytes())
-        && printed.len() == FENCE_SOLVED.len() + 1 + FENCE_END.len()
-        && printed
-            .get(FENCE_SOLVED.len())
-            .is_some_and(|digit| *digit <= b'5')
-}
-
-// The fence has one order of weight 14 among others, and no bound but the search's own closes it. Without cuts it takes
-// at least seven nodes.
-fn fence_closes<R: Abort + Threads + Sync>(rt: &R, alloc: Global, line: &str) -> Result<(), Fail> {
-    let (ends, memory) = ran(rt, alloc, (FENCE.as_bytes(), b""), line, &[], 1000)?;
-    same_at(
-        rt,
-        &(ends, closes_fence(memory.printed())),
-        &(0, true),
-        line,
-    );
-    Ok(())
-}
+// The fence has one order of weight 14 among others, and no bound but the search's own closes it: cuts do so at the root.
+// By packing alone it takes at least seven nodes.
+const FENCES: &[Row] = &[
+    (FENCE, "", SOLVE, 0, FENCE_SOLVED),
+    (FENCE, "", "solve lolib a --workers 4", 0, FENCE_SOLVED),
+];
 
 #[test]
 fn fence_to_the_end(rt: HostRuntime) -> Result<(), Fail> {
-    let alloc = rt.alloc();
-    for line in ["solve lolib a", "solve lolib a --workers 4"] {
-        fence_closes(&rt, alloc, line)?;
-    }
-    Ok(())
+    all_end(&rt, rt.alloc(), FENCES)
 }
 
 const VOTES: &str = "solve preflib a";

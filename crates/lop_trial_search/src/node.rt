@@ -8,7 +8,7 @@ use lop_leaf::{Evaluated, LeafRecord, PairRoom, Ticket, packing, upper};
 use lop_model::{Pair, Weights};
 use lop_node::pruning::Pruning;
 use lop_node::seen::Seen;
-use lop_node::{CutJudge, Judge, PackJudge};
+use lop_node::{Judge, PackJudge};
 use std::alloc::{AllocError, Global};
 use std::test::Fail;
 
@@ -79,85 +79,6 @@ fn root_of_a_three_fence(rt: HostRuntime) -> Result<(), Fail> {
     Ok(())
 }
 
-// What the judge that cuts leaves: the bound and the value.
-fn by_cuts(
-    weights: &Weights,
-    ticket: &Ticket,
-    judge: &mut CutJudge,
-    into: &mut Evaluated,
-) -> (i128, i128)
-    requires same_n { judge.old ≡ weights.now.size }
-    requires room { length into.old.order ≡ weights.now.size }
-    requires ticket { IsSoundTicket weights.now ticket.now }
-{
-    judge.judge(weights, ticket, into);
-    (into.bound(), into.value())
-}
-
-fn with_judge(
-    alloc: Global,
-    weights: &Weights,
-    ticket: &Ticket,
-    into: &mut Evaluated,
-) -> Result<(i128, i128), AllocError>
-    requires room { length into.old.order ≡ weights.now.size }
-    requires ticket { IsSoundTicket weights.now ticket.now }
-{
-    let mut judge = CutJudge::new(alloc, weights.n())?;
-    Ok(by_cuts(weights, ticket, &mut judge, into))
-}
-
-fn with_result(
-    alloc: Global,
-    weights: &Weights,
-    ticket: &Ticket,
-) -> Result<(i128, i128), AllocError>
-    requires { IsSoundTicket weights.now ticket.now }
-{
-    let mut into = Evaluated::new(alloc, weights.n())?;
-    with_judge(alloc, weights, ticket, &mut into)
-}
-
-fn with_root(
-    alloc: Global,
-    weights: &Weights,
-    ticket: &mut Ticket,
-) -> Result<(i128, i128), AllocError>
-    requires { ticket.old.size ≡ weights.now.size }
-{
-    fill_root(alloc, weights, 0, ticket)?;
-    with_result(alloc, weights, ticket)
-}
-
-fn root_by_cuts(
-    alloc: Global,
-    n: u16,
-    entries: &[i64],
-) -> Result<Option<(i128, i128)>, AllocError> {
-    let Ok(weights) = Weights::new(n, entries.to_vec(alloc)?) else {
-        return Ok(None);
-    };
-    let mut ticket = Ticket::new(alloc, weights.n())?;
-    Ok(Some(with_root(alloc, &weights, &mut ticket)?))
-}
-
-// An order keeps at most seven of the nine arcs of a three-fence, each of weight 2; packing shows 18.
-#[test]
-fn a_judge_that_cuts(rt: HostRuntime) -> Result<(), Fail> {
-    let fence: [i64; 36] = [
-        0, 0, 0, 2, 0, 0, 0, 0, 0, 0, 2, 0, 0, 0, 0, 0, 0, 2, 0, 2, 2, 0, 0, 0, 2, 0, 2, 0, 0, 0,
-        2, 2, 0, 0, 0, 0,
-    ];
-    let sectors: [i64; 9] = [0, 5, 1, 2, 0, 4, 3, 1, 0];
-    same(&rt, &root_by_cuts(rt.alloc(), 6, &fence)?, &Some((14, 14)));
-    same(
-        &rt,
-        &root_by_cuts(rt.alloc(), 3, &sectors)?,
-        &Some((10, 10)),
-    );
-    Ok(())
-}
-
 // Fixes the first pair that isn't, its lesser object first.
 fn fix_first(fixings: &mut Fixings)
     ensures { fixings.new.size ≡ fixings.old.size }
@@ -186,6 +107,23 @@ fn pruned(
     (packed.len(), value)
 }
 
+fn pruned_in_rooms(
+    alloc: Global,
+    weights: &Weights,
+    fixings: &Fixings,
+    best: i128,
+    room: &mut PairRoom,
+    packed: &mut LeafRecord,
+) -> Result<(usize, i128), AllocError>
+    requires same_n { fixings.now.size ≡ weights.now.size }
+    requires room { room.old ≡ weights.now.size }
+    requires fit { FitTerms weights.now.size packed.old.terms }
+{
+    let mut pruning = Pruning::new(alloc, weights.n())?;
+    let seen = Seen::new(alloc)?;
+    Ok(pruned(weights, fixings, best, room, &mut pruning, &seen, packed))
+}
+
 // The same, at the root or where the first pair is fixed.
 fn pruned_at(
     alloc: Global,
@@ -193,7 +131,7 @@ fn pruned_at(
     entries: &[i64],
     is_fixed: bool,
     best: i128,
-) -> Result<Option<(usize, i128)>, Fail> {
+) -> Result<Option<(usize, i128)>, AllocError> {
     let Ok(weights) = Weights::new(n, entries.to_vec(alloc)?) else {
         return Ok(None);
     };
@@ -201,21 +139,11 @@ fn pruned_at(
     let mut fixings = Fixings::new(alloc, n)?;
     let mut room = PairRoom::new(alloc, n)?;
     let mut packed = LeafRecord::new(alloc)?;
-    let mut pruning = Pruning::new(alloc, n)?;
-    let seen = Seen::new(alloc)?;
     let _bound = packing(&weights, &fixings, &mut packed, &mut room);
     if is_fixed {
         fix_first(&mut fixings);
     }
-    Ok(Some(pruned(
-        &weights,
-        &fixings,
-        best,
-        &mut room,
-        &mut pruning,
-        &seen,
-        &mut packed,
-    )))
+    Ok(Some(pruned_in_rooms(alloc, &weights, &fixings, best, &mut room, &mut packed)?))
 }
 
 // A cycle from 1 by 0 and 2, of weight 2 each: its term takes 2 from the 6 that the pairs give. Where 0 is fixed before

@@ -248,12 +248,8 @@ fn made_files(rt: HostRuntime) -> Result<(), Fail> {
     holds(&rt, write_all(&mut memory, b"12").is_ok());
     same(&rt, &memory.file("b"), &None);
     holds(&rt, memory.finish().is_ok());
-    let files = (memory.file("a"), memory.file("b"));
-    same(
-        &rt,
-        &files,
-        &(Some("old".as_bytes()), Some("12".as_bytes())),
-    );
+    same(&rt, &memory.file("a"), &Some("old".as_bytes()));
+    same(&rt, &memory.file("b"), &Some("12".as_bytes()));
     Ok(())
 }
 
